@@ -1,0 +1,43 @@
+-- What a call comes to (document 01, "Numbers a caller gets back").
+use mathlib.Core.Bool.{Bool, cond}
+use mathlib.Core.List.{List, [], _∷_, _++_}
+use Prim.Native.Nat.{ℕ}
+use lib.Dec.{ltb}
+use lib.ListN.{length, drop}
+use Rattle.meaning.specs.declared.Answer.{Answer}
+
+-- a row of document 01's table: the code and the place, given where the test holds
+pub record Row : Type 0 where
+  pub code : ℕ
+  pub place : ℕ
+  pub holds : Bool
+
+infix 70 _at_when_
+abbrev pub _at_when_ : ℕ → ℕ → Bool → Row
+c at p when b = record { code = c; place = p; holds = b }
+
+-- on refusal the counts are 0
+abbrev pub refused : Row → Answer
+refused r = record { code = r .code; place = r .place; first = 0; second = 0 }
+
+-- on 0 the place is 0
+abbrev pub counts : ℕ → ℕ → Answer
+counts first second = record { code = 0; place = 0; first = first; second = second }
+
+-- the answer, and what the lent lists hold afterwards
+pub record Outcome (A : Type 0) : Type 0 where
+  pub answer : Answer
+  pub lent : A
+
+-- where several rows hold, the upper one wins, and no lent list changes; where none holds, the answer a and the lists as they are after
+unfoldable pub settle : {A : Type 0} → (before : A) → List Row → (a : Answer) → (after : A) → Outcome A
+settle before [] a after = record { answer = a; lent = after }
+settle before (r ∷ rs) a after =
+    let rest = settle before rs a after in cond (r .holds) (record { answer = refused r; lent = before }) rest
+
+-- only the needed first part of an output is written
+abbrev pub written : {A : Type 0} → List A → List A → List A
+written new old = new ++ drop (length new) old
+
+abbrev pub tooShort : {A : Type 0} → List A → List A → Bool
+tooShort new old = ltb (length old) (length new)

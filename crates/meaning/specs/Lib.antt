@@ -1,0 +1,14 @@
+pub mod Trees
+pub mod Parents
+pub mod Strings
+pub mod Bytes
+pub mod Scan
+pub mod Packs
+pub mod Blocks
+pub mod Image
+pub mod Places
+pub mod Questions
+pub mod Listing
+pub mod Answers
+pub mod Calls
+pub mod Cases

@@ -1,0 +1,14 @@
+pub mod Order
+pub mod Levels
+pub mod Build
+pub mod Bits
+pub mod Parents
+pub mod Lowest
+pub mod Scan
+pub mod Odd
+pub mod Runs
+pub mod Navigate
+pub mod Answers
+pub mod Forms
+pub mod Packs
+pub mod Promises

@@ -1,0 +1,151 @@
+-- The promises of specs/Promises.antt, each from the theorems of the files beside this one.
+use mathlib.Core.Path.{_≡_, refl, sym, ap, ap₂, _∙_, subst}
+use mathlib.Core.List.{List, [], _∷_, _++_, append-nil}
+use mathlib.Core.Logic.{_↔_, _⊎_, inl, inr}
+use Prim.Native.Nat.{ℕ, zero, suc, _+_, _-_, _*_, _≤_, _<_}
+use native.Mathlib.Numerals.{add-one}
+use native.Mathlib.Omega.{arith}
+use lib.IntN.{pos}
+use lib.ListN.{length, getD, take}
+use Rattle.meaning.specs.Trees.{Tree, nodes}
+use Rattle.meaning.specs.Parents.{parents, entry, IsParents, Lowest, badEntry}
+use Rattle.meaning.specs.Strings.{Bit, O, I, ones, zeros, lbs, strings, R1, R0, parentsOf, stringOf}
+use Rattle.meaning.specs.Scan.{Kind, one, many, Small, Good, Place, place}
+use Rattle.meaning.specs.Packs.{sizes}
+use Rattle.meaning.specs.Questions.{childrenOf}
+use Rattle.theory.specs.Rank.{onesBefore}
+use Rattle.theory.specs.Promises as P
+use Rattle.theory.proofs.Levels.{level-law}
+use Rattle.theory.proofs.Bits.{prefix-free, strings-injective}
+use Rattle.theory.proofs.Parents.{parents-are, are-parents, parents-injective}
+use Rattle.theory.proofs.Lowest.{badEntry-is, parents-badEntry}
+use Rattle.theory.proofs.Scan.{nodes-ones, place-good, good-place, place-is, place-unique, not-before}
+use Rattle.theory.proofs.Odd.{tree-counts, never-odd}
+use Rattle.theory.proofs.Runs.{R1-length, R0-length}
+use Rattle.theory.proofs.Navigate.{children-are, counted, parents-bits, parent-is, ones-before-is}
+use Rattle.theory.proofs.Answers.{leaf-is, next-is}
+use Rattle.theory.proofs.Forms.{length-before, string-parents, string-parts, parts-injective, marks-count, marks-same}
+use Rattle.theory.proofs.Packs.{starts-are, sizes-are, found-is, part-is}
+
+pub level-order : P.LevelOrder
+level-order t = level-law t
+
+-- ---- parent lists
+
+pub parent-lists : P.ParentLists
+parent-lists ps = (λ h. are-parents ps h, λ w. subst IsParents (w .1) (parents-are (w .0)))
+
+pub one-tree : P.OneTree
+one-tree t u e = parents-injective t u e
+
+pub lowest-entry : P.LowestEntry
+lowest-entry ps l = ((λ e. sound e (badEntry-is ps l), λ h. parents-badEntry ps h), λ n. low n (badEntry-is ps l))
+  where
+    sound : badEntry ps ≡ 0 → ((badEntry ps ≡ 0) × IsParents ps) ⊎ Lowest ps (badEntry ps) → IsParents ps
+    sound e (inl v) = v .1
+    sound e (inr v) = absurd (omega (arith, v .from))
+
+    low : (badEntry ps ≡ 0 → ⊥) → ((badEntry ps ≡ 0) × IsParents ps) ⊎ Lowest ps (badEntry ps) → Lowest ps (badEntry ps)
+    low n (inl v) = absurd (n (v .0))
+    low n (inr v) = v
+
+-- ---- strings
+
+pub string-counts : P.StringCounts
+string-counts t =
+    let l = length-before (lbs t) 0 in
+    (omega (arith, nodes-ones t), omega (arith, nodes-ones t, tree-counts t), ap length (parents-bits t) ∙ omega (arith, l, nodes-ones t))
+
+pub string-back : P.StringBack
+unfolding parentsOf
+string-back t = (string-parents t, sym (parents-bits t))
+
+pub string-accepted : P.StringAccepted
+string-accepted bs = (
+  λ e. alone (place-good one bs e),
+  λ w. good-place one bs (record {
+    trees = w .0 ∷ [];
+    small = (w .1, tt);
+    asMany = refl;
+    same = append-nil (lbs (w .0)) ∙ w .2;
+  }),
+)
+  where
+    single : (ts : List Tree) → length ts ≡ 1 → Small ts → strings ts ≡ bs → (t : Tree) × (nodes t ≤ 65535) × (lbs t ≡ bs)
+    single [] c l e = absurd (omega arith)
+    single (t ∷ []) c l e = (t, l .0, sym (append-nil (lbs t)) ∙ e)
+    single (t ∷ u ∷ ts) c l e = absurd (omega arith)
+
+    alone : Good one bs → (t : Tree) × (nodes t ≤ 65535) × (lbs t ≡ bs)
+    alone g = single (g .trees) (g .asMany) (g .small) (g .same)
+
+pub pack-accepted : P.PackAccepted
+pack-accepted bs = (
+  λ e. let g = place-good many bs e in (g .trees, g .small, g .same),
+  λ w. good-place many bs (record { trees = w .0; small = w .1; asMany = tt; same = w .2 }),
+)
+
+pub refused-there : P.RefusedThere
+refused-there kind bs n = let h = place-is kind bs n in (h, λ p q. place-unique kind bs p (place kind bs) q h)
+
+-- ---- parts
+
+pub part-counts : P.PartCounts
+part-counts t = (
+  omega (arith, R1-length (lbs t), nodes-ones t),
+  omega (arith, R0-length (lbs t), nodes-ones t, tree-counts t),
+  omega (arith, marks-count t),
+  omega (arith, marks-count t, marks-same t),
+)
+
+pub parts-back : P.PartsBack
+parts-back t = (string-parts t, λ u e f. parts-injective t u e f)
+
+-- ---- what the strings give
+
+pub parent-by-strings : P.ParentByStrings
+parent-by-strings t i h l = parent-is t i h (omega (arith, nodes-ones t))
+
+pub ones-by-strings : P.OnesByStrings
+ones-by-strings t z h l = ones-before-is t z h (omega (arith, nodes-ones t, tree-counts t))
+
+pub children-by-strings : P.ChildrenByStrings
+children-by-strings t x =
+    let lo = onesBefore (lbs t) in
+    children-are t x
+    ∙ counted (1 + lo x) (lo x + 1) (lo (suc x) - lo x) (lo (x + 1) - lo x) (omega arith) (ap (λ z. lo z - lo x) (sym (add-one x)))
+
+pub leaf-by-strings : P.LeafByStrings
+leaf-by-strings t zero h l = absurd (omega arith)
+leaf-by-strings t (suc i) h l =
+    subst (λ j. (getD (R0 (lbs t)) j I ≡ O) ↔ (length (childrenOf (parents t) (suc i)) ≡ 0)) (let e : i ≡ suc i - 1 = omega arith in e)
+    (leaf-is t i (omega (arith, nodes-ones t)))
+
+pub next-by-strings : P.NextByStrings
+next-by-strings t x h l = next-is t x h (omega (arith, nodes-ones t))
+
+-- ---- packs
+
+pub none-begins : P.NoneBegins
+none-begins t u rest e = prefix-free t u rest e
+
+pub one-list : P.OneList
+one-list ts us e = strings-injective ts us e
+
+pub starts-and-sizes : P.StartsAndSizes
+starts-and-sizes ts l = (starts-are ts l, sizes-are ts l, found-is ts l)
+
+pub parts-of-pack : P.PartsOfPack
+parts-of-pack ts j other l h = part-is ts j other l h
+
+pub odd-changes : P.OddChanges
+odd-changes as′ bs k l ga ka gb kb m o =
+    let a = place-good many as′ ga in
+    let b = place-good many bs gb in
+    let na : length (a .trees) ≡ k = sym (found-is (a .trees) (a .small)) ∙ ap (λ r. length (sizes r)) (a .same) ∙ ka in
+    let nb : length (b .trees) ≡ k = sym (found-is (b .trees) (b .small)) ∙ ap (λ r. length (sizes r)) (b .same) ∙ kb in
+    never-odd (a .trees) (b .trees) (ap length (a .same) ∙ l ∙ sym (ap length (b .same))) (na ∙ sym nb) m
+    (ap₂ P.changed (a .same) (b .same) ∙ o)
+
+pub never-before : P.NeverBefore
+never-before kind as′ bs j g e l n = not-before kind as′ bs j (place kind bs) (place-good kind as′ g) e l (place-is kind bs n)

@@ -1,0 +1,62 @@
+-- The image word by word (document 01, "Image"): what each word must be for two strings to give these bytes.
+use mathlib.Core.Path.{_≡_}
+use mathlib.Core.List.{List, [], _∷_}
+use Prim.Native.Nat.{ℕ, zero, suc, _+_, _*_, _<_}
+use lib.ListN.{length, getD, take, drop}
+use Rattle.meaning.specs.Strings.{Bit, O, I, ones}
+use Rattle.meaning.specs.Bytes.{number}
+use Rattle.meaning.specs.Blocks.{wrongBlock}
+use Rattle.meaning.specs.Image.{stringBlocks, samples, sampleBlocks}
+
+-- bits that are the marks of k runs: k ones, the last bit among them
+abbrev pub Runs : ℕ → List Bit → Type 0
+Runs zero [] = Unit
+Runs zero (x ∷ bs) = ⊥
+Runs (suc k) [] = ⊥
+Runs (suc k) (O ∷ bs) = Runs (suc k) bs
+Runs (suc k) (I ∷ bs) = Runs k bs
+
+abbrev pub AreBytes : List ℕ → Type 0
+AreBytes bytes = (i : ℕ) → i < length bytes → getD bytes i 0 < 256
+
+-- the word at byte p, little-endian
+unfoldable pub wordAt : List ℕ → ℕ → ℕ
+wordAt bytes p = getD bytes p 0 + 256 * getD bytes (p + 1) 0 + 65536 * getD bytes (p + 2) 0 + 16777216 * getD bytes (p + 3) 0
+
+-- the word of the first 32 bits: four bytes, each most significant bit first
+unfoldable pub bitWord : List Bit → ℕ
+bitWord bs = number 8 bs + 256 * number 8 (drop 8 bs) + 65536 * number 8 (drop 16 bs) + 16777216 * number 8 (drop 24 bs)
+
+-- word w of block j of a string: the number of ones in earlier blocks, then the bits; after the last bit zero
+unfoldable pub stringWord : List Bit → ℕ → ℕ → ℕ
+unfolding bitWord
+stringWord r j zero = ones (take (4000 * j) r)
+stringWord r j (suc w) = bitWord (drop (4000 * j + 32 * w) r)
+
+-- word w of block j of a string's samples; after the last sample zero
+unfoldable pub sampleWord : List Bit → ℕ → ℕ → ℕ
+sampleWord r j w = getD (samples r) (126 * j + w) 0
+
+-- where the blocks of R0, of the samples of R1 and of the samples of R0 begin, and how many blocks there are
+module _ (a b : List Bit) where
+  abbrev pub startR0 : ℕ
+  startR0 = 1 + stringBlocks (length a)
+
+  abbrev pub startS1 : ℕ
+  startS1 = startR0 + stringBlocks (length b)
+
+  abbrev pub startS0 : ℕ
+  startS0 = startS1 + sampleBlocks (samples a)
+
+  abbrev pub total : ℕ
+  total = startS0 + sampleBlocks (samples b)
+
+-- these bytes are laid out for R1 = a and R0 = b
+pub record Laid (bytes : List ℕ) (a b : List Bit) : Type 0 where
+  pub size : length bytes ≡ 512 * total a b
+  pub sums : wrongBlock bytes ≡ total a b
+  pub head : (w : ℕ) → w < 126 → wordAt bytes (4 * w) ≡ getD (1 ∷ length a ∷ ones a ∷ total a b ∷ []) w 0
+  pub inR1 : (j w : ℕ) → 1 + j < startR0 a b → w < 126 → wordAt bytes (512 * (1 + j) + 4 * w) ≡ stringWord a j w
+  pub inR0 : (j w : ℕ) → startR0 a b + j < startS1 a b → w < 126 → wordAt bytes (512 * (startR0 a b + j) + 4 * w) ≡ stringWord b j w
+  pub inS1 : (j w : ℕ) → startS1 a b + j < startS0 a b → w < 126 → wordAt bytes (512 * (startS1 a b + j) + 4 * w) ≡ sampleWord a j w
+  pub inS0 : (j w : ℕ) → startS0 a b + j < total a b → w < 126 → wordAt bytes (512 * (startS0 a b + j) + 4 * w) ≡ sampleWord b j w

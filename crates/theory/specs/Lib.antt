@@ -1,0 +1,4 @@
+pub mod Rank
+pub mod Walks
+pub mod Layout
+pub mod Promises

@@ -1,0 +1,136 @@
+-- What the theory promises of trees, parent lists, strings, packs and images, in the order of the customer's demands.
+-- Each name is a statement; crates/theory/proofs/Promises.antt has a proof of each.
+use mathlib.Core.Path.{_≡_}
+use mathlib.Core.Bool.{true, false}
+use mathlib.Core.List.{List, [], _∷_, _++_, map}
+use mathlib.Core.Logic.{_↔_, _⊎_}
+use Prim.Native.Nat.{ℕ, zero, suc, _+_, _-_, _*_, _≤_, _<_}
+use lib.IntN.{ℤ, pos, negsuc}
+use lib.ListN.{length, getD, take, drop}
+use Rattle.meaning.specs.Trees.{Tree, Node, depth, childNodes, endToEnd, levelOrder, nodes}
+use Rattle.meaning.specs.Parents.{parents, entry, IsParents, Lowest, badEntry}
+use Rattle.meaning.specs.Strings.{Bit, O, I, ones, zeros, lbs, strings, R1, R0, parentsOf, stringOf, woven}
+use Rattle.meaning.specs.Scan.{Kind, one, many, Small, Place, place}
+use Rattle.meaning.specs.Packs.{startsOf, sizesOf, sizes, starts}
+use Rattle.meaning.specs.Questions.{Ask, childrenOf, siblingsOf, siblingAt, answer}
+use Rattle.theory.specs.Rank.{onesLeft, position, onesBefore, counting, withChildren}
+use Rattle.theory.specs.Walks.{root, nodeAt, Number, Gives, everything, Lists, AllBelow, FirstAt}
+
+-- ---- Level order.
+
+-- after the root come the children of node 1, then those of node 2, and so on
+abbrev pub LevelOrder : Type 0
+LevelOrder = (t : Tree) → levelOrder t ≡ root t ∷ endToEnd (map childNodes (levelOrder t))
+
+-- ---- Demand 2: parent lists.
+
+-- a list of numbers is a parent list exactly if some tree has it
+abbrev pub ParentLists : Type 0
+ParentLists = (ps : List ℕ) → IsParents ps ↔ ((t : Tree) × (parents t ≡ ps))
+
+-- the tree is one
+abbrev pub OneTree : Type 0
+OneTree = (t u : Tree) → parents t ≡ parents u → t ≡ u
+
+-- of a list that is not empty: 0 exactly if it is a parent list, and else the lowest offending entry
+abbrev pub LowestEntry : Type 0
+LowestEntry = (ps : List ℕ) → 1 ≤ length ps
+    → ((badEntry ps ≡ 0) ↔ IsParents ps) × ((badEntry ps ≡ 0 → ⊥) → Lowest ps (badEntry ps))
+
+-- ---- Demand 2: tree strings.
+
+-- n ones and n + 1 zeros
+abbrev pub StringCounts : Type 0
+StringCounts = (t : Tree) → (ones (lbs t) ≡ nodes t) × (zeros (lbs t) ≡ nodes t + 1) × (length (parents t) ≡ nodes t)
+
+-- parent list to string and back
+abbrev pub StringBack : Type 0
+StringBack = (t : Tree) → (stringOf (parents t) ≡ lbs t) × (parentsOf (lbs t) ≡ parents t)
+
+-- bits are accepted exactly if some tree of 1 to 65,535 nodes gives them
+abbrev pub StringAccepted : Type 0
+StringAccepted = (bs : List Bit) → (place one bs ≡ 0) ↔ ((t : Tree) × (nodes t ≤ 65535) × (lbs t ≡ bs))
+
+-- bits of a pack, exactly if some list of such trees gives them
+abbrev pub PackAccepted : Type 0
+PackAccepted = (bs : List Bit) → (place many bs ≡ 0) ↔ ((ts : List Tree) × Small ts × (strings ts ≡ bs))
+
+-- others are refused at document 01's first p, and there is one such place
+abbrev pub RefusedThere : Type 0
+RefusedThere = (kind : Kind) (bs : List Bit) → (place kind bs ≡ 0 → ⊥)
+    → Place kind bs (place kind bs) × ((p : ℕ) → Place kind bs p → p ≡ place kind bs)
+
+-- ---- Demand 2: partitioned strings.
+
+-- R1 has n bits, R0 n + 1; both have m ones, where m is one more than the number of nodes with children
+abbrev pub PartCounts : Type 0
+PartCounts = (t : Tree) → (length (R1 (lbs t)) ≡ nodes t) × (length (R0 (lbs t)) ≡ nodes t + 1)
+    × (ones (R1 (lbs t)) ≡ withChildren t + 1) × (ones (R0 (lbs t)) ≡ withChildren t + 1)
+
+-- to R1 and R0 and back; no other tree has both
+abbrev pub PartsBack : Type 0
+PartsBack = (t : Tree) → (woven (R1 (lbs t)) (R0 (lbs t)) ≡ lbs t)
+    × ((u : Tree) → R1 (lbs t) ≡ R1 (lbs u) → R0 (lbs t) ≡ R0 (lbs u) → t ≡ u)
+
+-- ---- Demand 2: what the strings give, of node x of n.
+
+-- the parent of i is the position in R0 of that one whose number is the count of ones left of i in R1
+abbrev pub ParentByStrings : Type 0
+ParentByStrings = (t : Tree) (i : ℕ) → 1 ≤ i → i ≤ nodes t → entry (parents t) i ≡ position (R0 (lbs t)) (onesLeft (R1 (lbs t)) i)
+
+-- the ones of the string before its z-th zero number the position in R1 of that one whose number is 1 plus the ones left of z in R0
+abbrev pub OnesByStrings : Type 0
+OnesByStrings = (t : Tree) (z : ℕ) → 1 ≤ z → z ≤ nodes t + 1 → onesBefore (lbs t) z ≡ position (R1 (lbs t)) (1 + onesLeft (R0 (lbs t)) z)
+
+-- node x has its children after those before zero x, up to those before zero x + 1
+abbrev pub ChildrenByStrings : Type 0
+ChildrenByStrings = (t : Tree) (x : ℕ)
+    → childrenOf (parents t) x ≡ counting (onesBefore (lbs t) x + 1) (onesBefore (lbs t) (x + 1) - onesBefore (lbs t) x)
+
+-- node x is a leaf exactly if R0 has 0 at x
+abbrev pub LeafByStrings : Type 0
+LeafByStrings = (t : Tree) (x : ℕ) → 1 ≤ x → x ≤ nodes t → (getD (R0 (lbs t)) (x - 1) I ≡ O) ↔ (length (childrenOf (parents t) x) ≡ 0)
+
+-- and has a next sibling, x + 1, exactly if R1 has 0 at x
+abbrev pub NextByStrings : Type 0
+NextByStrings = (t : Tree) (x : ℕ) → 1 ≤ x → x ≤ nodes t → (getD (R1 (lbs t)) (x - 1) I ≡ O) ↔ (siblingAt (parents t) x (pos 1) ≡ x + 1)
+
+-- ---- Demand 3.
+
+-- no tree's string is the beginning of another tree's
+abbrev pub NoneBegins : Type 0
+NoneBegins = (t u : Tree) (rest : List Bit) → lbs t ++ rest ≡ lbs u → (t ≡ u) × (rest ≡ [])
+
+-- strings end to end: no other list gives those bits
+abbrev pub OneList : Type 0
+OneList = (ts us : List Tree) → strings ts ≡ strings us → ts ≡ us
+
+-- the splitter's starts and sizes are those of the trees, and it finds as many as there are
+abbrev pub StartsAndSizes : Type 0
+StartsAndSizes = (ts : List Tree) → Small ts
+    → (starts (strings ts) ≡ startsOf ts 0) × (sizes (strings ts) ≡ sizesOf ts) × (length (sizes (strings ts)) ≡ length ts)
+
+-- each part, the 2 × size + 1 bits from its first bit, moved to bit 1, is its tree's string
+abbrev pub PartsOfPack : Type 0
+PartsOfPack = (ts : List Tree) (j : ℕ) (other : Tree) → Small ts → j < length ts
+    → take (2 * getD (sizes (strings ts)) j 0 + 1) (drop (getD (starts (strings ts)) j 0 - 1) (strings ts)) ≡ lbs (getD ts j other)
+
+-- in how many places two strings of one length differ
+abbrev pub changed : List Bit → List Bit → ℕ
+changed [] bs = 0
+changed (x ∷ xs) [] = 0
+changed (O ∷ xs) (O ∷ ys) = changed xs ys
+changed (I ∷ xs) (I ∷ ys) = changed xs ys
+changed (O ∷ xs) (I ∷ ys) = suc (changed xs ys)
+changed (I ∷ xs) (O ∷ ys) = suc (changed xs ys)
+
+-- with the number of trees known, changing an odd number of bits never yields bits that are accepted with that number
+abbrev pub OddChanges : Type 0
+OddChanges = (as′ bs : List Bit) (k : ℕ) → length as′ ≡ length bs
+    → place many as′ ≡ 0 → length (sizes as′) ≡ k → place many bs ≡ 0 → length (sizes bs) ≡ k
+    → (m : ℕ) → changed as′ bs ≡ 2 * m + 1 → ⊥
+
+-- however many bits are changed, a refusal names none before the first changed bit: where the first j are the same, one after them
+abbrev pub NeverBefore : Type 0
+NeverBefore = (kind : Kind) (as′ bs : List Bit) (j : ℕ) → place kind as′ ≡ 0 → take j as′ ≡ take j bs → j ≤ length bs
+    → (place kind bs ≡ 0 → ⊥) → j < place kind bs

@@ -1,0 +1,1 @@
+// Theorems about the definitions of `meaning`; no code.
