@@ -1,13 +1,13 @@
 -- The nine public calls: from what is lent to the answer and to what the lent lists hold afterwards, for any input.
 -- The refusals of each stand in the order of document 01's table, "Numbers a caller gets back".
-use mathlib.Core.Bool.{Bool, true, false, not, _&&_, _||_}
+use mathlib.Core.Bool.{Bool, false, not, _||_}
 use mathlib.Core.List.{List, [], _∷_, _++_, map}
-use Prim.Native.Nat.{ℕ, suc, _+_, _*_, _/_, _%_}
-use lib.Dec.{leb, ltb, eqb}
+use Prim.Native.Nat.{ℕ, _+_, _*_, _/_, _%_}
+use lib.Dec.{ltb, eqb}
 use lib.IntN.{ℤ}
 use lib.ListN.{length}
 use Rattle.meaning.specs.Parents.{badEntry}
-use Rattle.meaning.specs.Strings.{Bit, ones, R1, parentsOf, stringOf}
+use Rattle.meaning.specs.Strings.{ones, R1, parentsOf, stringOf}
 use Rattle.meaning.specs.Bytes.{bitsFrom, bytesFor, leftover, packed}
 use Rattle.meaning.specs.Scan.{one, many, place}
 use Rattle.meaning.specs.Packs.{starts, sizes}

@@ -7,7 +7,7 @@ use Rattle.meaning.specs.declared.Answer.{Answer}
 use Rattle.meaning.specs.Strings.{stringOf}
 use Rattle.meaning.specs.Blocks.{le32, wordBytes}
 use Rattle.meaning.specs.Image.{imageOfString}
-use Rattle.meaning.specs.Answers.{Outcome, refused, _at_when_, counts}
+use Rattle.meaning.specs.Answers.{Outcome, counts}
 use Rattle.meaning.specs.Calls.{stringOfParents, parentsOfString, imageOfParents, parentsOfImage, checkImage, askImage, listImage, splitPack, joinPack}
 
 -- ---- A call with its inputs, and what comes back: the answer, and each lent list that may be written.
@@ -71,6 +71,10 @@ block ws s t = wordBytes ws ++ replicate (504 - 4 * length ws) 0 ++ le32 s ++ le
 abbrev T : List ℕ
 T = 0 ∷ 1 ∷ 1 ∷ 1 ∷ 2 ∷ 2 ∷ 4 ∷ []
 
+-- a question: kind, node, argument
+abbrev question : ℕ → ℕ → ℤ → List ℤ
+question kind x z = pos kind ∷ pos x ∷ z ∷ []
+
 -- T's image, with the first block of R1 and the block of R1's samples as given
 abbrev imageWith : List ℕ → List ℕ → List ℕ
 imageWith string samples =
@@ -132,10 +136,12 @@ cases =
     ∷ split (0b10110010 ∷ 0 ∷ []) 9 1 (room 1) (room 1) gives counts 9 1 with ((1 ∷ []) ∷ (4 ∷ []) ∷ [])
     ∷ split (0b10010010 ∷ 0 ∷ []) 9 1 (room 1) (room 1) gives code 10 place 3 with (room 1 ∷ room 1 ∷ [])
     -- 10: the parent of 7, first and last child of 2, child 2 of 2, and whether 3 is a leaf
-    ∷ ask imageT (pos 1 ∷ pos 7 ∷ pos 0 ∷ pos 2 ∷ pos 2 ∷ pos 0 ∷ pos 3 ∷ pos 2 ∷ pos 0 ∷ pos 8 ∷ pos 2 ∷ pos 2 ∷ pos 9 ∷ pos 3 ∷ pos 0 ∷ []) (room 6)
+    ∷ ask imageT (question 1 7 (pos 0) ++ question 2 2 (pos 0) ++ question 3 2 (pos 0) ++ question 8 2 (pos 2) ++ question 9 3 (pos 0)) (room 6)
     gives counts 5 0 with ((4 ∷ 5 ∷ 6 ∷ 6 ∷ 1 ∷ 9 ∷ []) ∷ [])
     -- 11
-    ∷ ask imageT (pos 10 ∷ pos 2 ∷ pos 2 ∷ pos 10 ∷ pos 2 ∷ pos 3 ∷ pos 10 ∷ pos 2 ∷ negsuc 0 ∷ []) (room 3) gives counts 3 0 with ((4 ∷ 0 ∷ 0 ∷ []) ∷ [])
+    ∷ ask imageT (question 10 2 (pos 2) ++ question 10 2 (pos 3) ++ question 10 2 (negsuc 0)) (room 3) gives counts 3 0 with ((4 ∷ 0 ∷ 0 ∷ []) ∷ [])
+    -- a question that is not allowed: the second one's node is 8
+    ∷ ask imageT (question 1 7 (pos 0) ++ question 1 8 (pos 0)) (room 2) gives code 8 place 2 with (room 2 ∷ [])
     -- 12
     ∷ split [] 0 0 [] [] gives counts 0 0 with ([] ∷ [] ∷ [])
     -- the listing of T

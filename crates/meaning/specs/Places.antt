@@ -1,5 +1,5 @@
 -- The place of a one inside a byte: a table of sixteen rows of four (document 01, "Image").
-use mathlib.Core.List.{List, [], _∷_, _++_, map}
+use mathlib.Core.List.{List, [], _∷_, _++_}
 use Prim.Native.Nat.{ℕ, _/_, _%_}
 use lib.ListN.{take, replicate}
 use Rattle.meaning.specs.Strings.{Bit, positions}

@@ -1,17 +1,16 @@
 -- Every answer that is read off the parent list, from the strings: `lo` and `hi` are the ones before two zeros that follow each other.
-use mathlib.Core.Path.{_≡_, refl, sym, ap, ap₂, _∙_, subst}
-use mathlib.Core.List.{List, [], _∷_, _++_}
-use mathlib.Core.Logic.{_↔_, _⊎_, inl, inr}
+use mathlib.Core.Path.{_≡_, refl, sym, ap, ap₂, _∙_}
+use mathlib.Core.Logic.{_↔_}
 use Prim.Native.Nat.{ℕ, zero, suc, _+_, _-_, _≤_, _<_}
 use native.Mathlib.Omega.{arith}
 use native.Mathlib.Decide.{decLt}
-use lib.IntN.{ℤ, pos, negsuc}
-use lib.ListN.{length, getD, take}
+use lib.IntN.{pos, negsuc}
+use lib.ListN.{length, getD}
 use Rattle.meaning.specs.Trees.{Tree}
-use Rattle.meaning.specs.Strings.{Bit, O, I, lbs, ones, zeros, R1, R0}
+use Rattle.meaning.specs.Strings.{O, I, lbs, ones, R1, R0}
 use Rattle.meaning.specs.Parents.{parents, entry}
-use Rattle.theory.specs.Rank.{position, onesBefore, counting}
-use Rattle.meaning.specs.Questions.{childrenOf, siblingsOf, rankOf, siblingAt, childAt, isNone}
+use Rattle.theory.specs.Rank.{onesBefore, counting}
+use Rattle.meaning.specs.Questions.{childrenOf, rankOf, siblingAt, childAt}
 use Rattle.theory.proofs.Navigate.{children-are, ranked, Rank, onesBefore-mono, leaf-mark}
 use Rattle.theory.proofs.Runs.{R0-bits}
 use Rattle.theory.proofs.Odd.{tree-counts}

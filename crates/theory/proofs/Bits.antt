@@ -1,10 +1,10 @@
 -- Tree strings: which bits are one, that none begins another, and that a list of them end to end can be cut in one way only.
 use mathlib.Core.Path.{_≡_, refl, sym, ap, ap₂, _∙_, subst}
-use mathlib.Core.List.{List, [], _∷_, _++_, map, append-nil, append-assoc, cons≢nil, nil≢cons, head-eq-of-cons-eq, tail-eq-of-cons-eq, append-cancel-left}
-use Prim.Native.Nat.{ℕ, zero, suc, _+_, _-_, _≤_, _<_}
+use mathlib.Core.List.{List, [], _∷_, _++_, append-nil, cons≢nil, nil≢cons, head-eq-of-cons-eq, tail-eq-of-cons-eq}
+use Prim.Native.Nat.{ℕ, zero, suc, _+_}
 use native.Mathlib.Nat.{add-zero, add-suc, suc-add}
 use native.Mathlib.Omega.{arith}
-use lib.ListN.{length, replicate}
+use lib.ListN.{replicate}
 use Rattle.meaning.specs.Trees.{Tree, degrees}
 use Rattle.meaning.specs.Strings.{Bit, O, I, unary, lbs, strings}
 use Rattle.theory.proofs.Build.{Done, degrees-done, treeOf, degrees-treeOf, degrees-injective}

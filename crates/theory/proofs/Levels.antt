@@ -1,8 +1,7 @@
 -- Level order of a tree's nodes, and of its subtrees.
 use mathlib.Core.Path.{_≡_, refl, sym, ap, ap₂, _∙_}
-use mathlib.Core.List.{List, [], _∷_, _++_, map, append-nil}
+use mathlib.Core.List.{List, [], _∷_, _++_, map}
 use Prim.Native.Nat.{ℕ, suc}
-use lib.ListN.{length}
 use Rattle.meaning.specs.Trees.{Tree, Trees, node, none, _then_, listed, children, degree, Node, degreeOf, siblingNodes, nodesUnder, childNodes, beside, levels, levelsBelow, endToEnd, levelOrder, degrees}
 use Rattle.theory.specs.Walks.{root}
 use Rattle.theory.proofs.Order.{beside-nil, levelsAll, order, order-queue, order-law}

@@ -11,4 +11,9 @@ pub mod Navigate
 pub mod Answers
 pub mod Forms
 pub mod Packs
+pub mod Digits
+pub mod Packing
+pub mod Addresses
+pub mod OwnAnswers
+pub mod Depths
 pub mod Promises

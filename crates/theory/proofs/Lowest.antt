@@ -4,15 +4,15 @@ use mathlib.Core.Logic.{_⊎_, inl, inr}
 use mathlib.Core.Bool.{Bool, true, false, cond, _&&_}
 use mathlib.Core.List.{List, [], _∷_}
 use lib.ListN.{drop-of-length-le}
-use Prim.Native.Nat.{ℕ, zero, suc, _+_, _-_, _≤_, _<_}
+use Prim.Native.Nat.{ℕ, zero, suc, _+_, _≤_, _<_}
 use native.Mathlib.Omega.{arith}
 use lib.Dec.{leb, eqb}
 use lib.ListN.{length, getD, drop}
 use lib.Seq.{drop-cons}
 use native.Mathlib.Numerals.{add-one}
-use borrow.Author.Tests.{leb-true, leb-false, eqb-true, eqb-false, le-leb, lt-leb, eq-eqb, ne-eqb}
-use Rattle.meaning.specs.Parents.{IsParents, Rule, Lowest, entry, badFrom, badEntry}
-use Rattle.theory.proofs.Parents.{Later, Said, later-rule, rule-later, later-said, later-pos, before-first}
+use borrow.Author.Tests.{leb-true, eqb-true, eqb-false, le-leb, lt-leb, eq-eqb, ne-eqb}
+use Rattle.meaning.specs.Parents.{IsParents, Rule, Lowest, badFrom, badEntry}
+use Rattle.theory.proofs.Parents.{Later, Said, later-rule, before-first}
 
 -- the test of an entry, and what it says
 abbrev fits : ℕ → ℕ → ℕ → Bool

@@ -1,12 +1,10 @@
 -- T7: what the strings give. First of any bits, by induction from the left; then of a tree's string.
 use mathlib.Core.Path.{_≡_, refl, sym, ap, ap₂, _∙_, subst, subst₂}
-use mathlib.Core.List.{List, [], _∷_, _++_, map, cons≢nil}
-use mathlib.Core.Logic.{_↔_, _⊎_, inl, inr}
-use mathlib.Core.Bool.{Bool, true, false}
+use mathlib.Core.List.{List, [], _∷_, _++_}
+use mathlib.Core.Logic.{_↔_}
 use Prim.Native.Nat.{ℕ, zero, suc, _+_, _-_, _≤_, _<_}
-use native.Mathlib.Nat.{add-zero, add-suc, suc-add, zero-add}
+use native.Mathlib.Nat.{add-suc, suc-add, zero-add}
 use native.Mathlib.Omega.{arith}
-use lib.Dec.{eqb}
 use lib.ListN.{length, getD, take, replicate}
 use borrow.Author.Tests.{eq-eqb, ne-eqb}
 use Rattle.meaning.specs.Trees.{Tree, degrees}
@@ -15,7 +13,7 @@ use Rattle.meaning.specs.Parents.{parents, each, entry}
 use Rattle.theory.proofs.Runs.{ends, ends1, ends0, R1-bits, R0-bits}
 use Rattle.theory.proofs.Bits.{I≢O}
 use Rattle.theory.specs.Rank.{onesLeft, position, onesBefore, counting}
-use Rattle.meaning.specs.Questions.{keep, numbersOf, childrenOf, siblingsOf, rankOf, siblingAt, childAt, answer}
+use Rattle.meaning.specs.Questions.{keep, numbersOf, childrenOf, rankOf}
 
 -- ---- the parents, read off the bits: for each one, how many zeros stand before it
 
@@ -122,7 +120,7 @@ ones-before-is t z h l =
 
 -- ---- the children of x: after the ones before zero x, up to those before zero x + 1
 
-onesBefore-zero : (bs : List Bit) → onesBefore bs 0 ≡ 0
+pub onesBefore-zero : (bs : List Bit) → onesBefore bs 0 ≡ 0
 onesBefore-zero [] = refl
 onesBefore-zero (b ∷ bs) = refl
 

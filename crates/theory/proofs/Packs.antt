@@ -1,14 +1,14 @@
 -- What is read off the bits of a pack is what its trees give.
 use mathlib.Core.Path.{_≡_, refl, sym, ap, ap₂, _∙_}
-use mathlib.Core.List.{List, [], _∷_, _++_, map, append-assoc}
-use mathlib.Core.Option.{Option, none, some}
+use mathlib.Core.List.{List, [], _∷_, _++_, append-assoc}
+use mathlib.Core.Option.{some}
 use Prim.Native.Nat.{ℕ, zero, suc, _+_, _-_, _*_, _≤_, _<_}
 use native.Mathlib.Omega.{arith}
 use lib.ListN.{length, getD, take, drop, length-append, length-map}
 use lib.Seq.{take-at, drop-at}
 use Rattle.meaning.specs.Trees.{Tree, degrees, nodes}
 use Rattle.meaning.specs.Strings.{Bit, O, I, unary, lbs, ones, strings}
-use Rattle.meaning.specs.Scan.{many, Small, State, closed, begun, inside, step}
+use Rattle.meaning.specs.Scan.{Small, closed, inside}
 use Rattle.meaning.specs.Packs.{startsOf, sizesOf, sizesFrom, sizes, startsFrom, starts}
 use Rattle.theory.proofs.Bits.{Over, string-of-tree}
 use Rattle.theory.proofs.Scan.{nodes-ones}

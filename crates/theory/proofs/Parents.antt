@@ -1,13 +1,12 @@
 -- T3: a list is a parent list exactly if it is the parents of a tree, and of one tree only.
 use mathlib.Core.Path.{_≡_, refl, sym, ap, ap₂, _∙_, subst}
-use mathlib.Core.List.{List, [], _∷_, _++_, cons≢nil, nil≢cons, head-eq-of-cons-eq, tail-eq-of-cons-eq}
+use mathlib.Core.List.{List, [], _∷_, _++_, tail-eq-of-cons-eq}
 use Prim.Native.Nat.{ℕ, zero, suc, _+_, _-_, _≤_, _<_}
-use native.Mathlib.Nat.{add-zero, add-suc, suc-add, zero-add}
+use native.Mathlib.Nat.{add-zero, add-suc, suc-add}
 use native.Mathlib.Omega.{arith}
-use native.Mathlib.Numerals.{sub-one}
 use lib.ListN.{length, getD, replicate}
 use Rattle.meaning.specs.Trees.{Tree, degrees}
-use Rattle.meaning.specs.Parents.{parents, each, IsParents, Rule, entry}
+use Rattle.meaning.specs.Parents.{parents, each, IsParents, Rule}
 use Rattle.theory.proofs.Bits.{bump}
 use Rattle.theory.proofs.Build.{Done, degrees-done, treeOf, degrees-treeOf, degrees-injective}
 

@@ -1,18 +1,17 @@
 -- The promises of specs/Promises.antt, each from the theorems of the files beside this one.
 use mathlib.Core.Path.{_≡_, refl, sym, ap, ap₂, _∙_, subst}
-use mathlib.Core.List.{List, [], _∷_, _++_, append-nil}
+use mathlib.Core.List.{List, [], _∷_, append-nil}
 use mathlib.Core.Logic.{_↔_, _⊎_, inl, inr}
-use Prim.Native.Nat.{ℕ, zero, suc, _+_, _-_, _*_, _≤_, _<_}
+use Prim.Native.Nat.{zero, suc, _+_, _-_, _≤_}
 use native.Mathlib.Numerals.{add-one}
 use native.Mathlib.Omega.{arith}
-use lib.IntN.{pos}
-use lib.ListN.{length, getD, take}
+use lib.ListN.{length, getD}
 use Rattle.meaning.specs.Trees.{Tree, nodes}
 use Rattle.meaning.specs.Parents.{parents, entry, IsParents, Lowest, badEntry}
-use Rattle.meaning.specs.Strings.{Bit, O, I, ones, zeros, lbs, strings, R1, R0, parentsOf, stringOf}
-use Rattle.meaning.specs.Scan.{Kind, one, many, Small, Good, Place, place}
+use Rattle.meaning.specs.Strings.{O, I, lbs, strings, R0, parentsOf}
+use Rattle.meaning.specs.Scan.{one, many, Small, Good, place}
 use Rattle.meaning.specs.Packs.{sizes}
-use Rattle.meaning.specs.Questions.{childrenOf}
+use Rattle.meaning.specs.Questions.{childrenOf, siblingsOf}
 use Rattle.theory.specs.Rank.{onesBefore}
 use Rattle.theory.specs.Promises as P
 use Rattle.theory.proofs.Levels.{level-law}
@@ -25,6 +24,10 @@ use Rattle.theory.proofs.Runs.{R1-length, R0-length}
 use Rattle.theory.proofs.Navigate.{children-are, counted, parents-bits, parent-is, ones-before-is}
 use Rattle.theory.proofs.Answers.{leaf-is, next-is}
 use Rattle.theory.proofs.Forms.{length-before, string-parents, string-parts, parts-injective, marks-count, marks-same}
+use Rattle.theory.proofs.Addresses.{children-nodes, is-child, number-unique}
+use Rattle.theory.proofs.OwnAnswers.{own-answer}
+use Rattle.theory.proofs.Depths.{not-deep, deep-none, listing-whole, first-deep}
+use Rattle.theory.proofs.Packing.{packed-length, packed-leftover, packed-read, read-packed}
 use Rattle.theory.proofs.Packs.{starts-are, sizes-are, found-is, part-is}
 
 pub level-order : P.LevelOrder
@@ -88,6 +91,12 @@ pack-accepted bs = (
 pub refused-there : P.RefusedThere
 refused-there kind bs n = let h = place-is kind bs n in (h, λ p q. place-unique kind bs p (place kind bs) q h)
 
+pub bytes-back : P.BytesBack
+bytes-back bs = (packed-length bs, packed-leftover bs, packed-read bs)
+
+pub one-bytes : P.OneBytes
+one-bytes bytes L b l e = read-packed bytes L b l e
+
 -- ---- parts
 
 pub part-counts : P.PartCounts
@@ -123,6 +132,26 @@ leaf-by-strings t (suc i) h l =
 
 pub next-by-strings : P.NextByStrings
 next-by-strings t x h l = next-is t x h (omega (arith, nodes-ones t))
+
+-- ---- the tree's own answers
+
+pub one-number : P.OneNumber
+one-number t a x y n m = number-unique t n m
+
+pub own-children : P.OwnChildren
+own-children t x g h = children-nodes t x g h
+
+pub own-parent : P.OwnParent
+unfolding siblingsOf
+own-parent t x g h =
+    let c = is-child t x g h in
+    (c .from, c .before, c .address, ap length (c .address), children-nodes t (entry (parents t) x) (c .from) (omega (arith, c .before)))
+
+pub own-answers : P.OwnAnswer
+own-answers t kind x g h z = own-answer t kind x g h z
+
+pub own-listing : P.OwnListing
+own-listing t x g h = ((λ e. not-deep t x g h e, λ a. deep-none t x g h a), λ e. listing-whole t x g h e, λ n. first-deep t x g h n)
 
 -- ---- packs
 

@@ -1,8 +1,8 @@
 -- R1 and R0 bit by bit: a bit becomes 1 where its run ends, and 0 where it goes on.
-use mathlib.Core.Path.{_≡_, refl, sym, ap, ap₂, _∙_, fun-ext}
-use mathlib.Core.List.{List, [], _∷_, _++_}
-use Prim.Native.Nat.{ℕ, zero, suc}
-use lib.ListN.{length, replicate}
+use mathlib.Core.Path.{_≡_, refl, ap, ap₂, _∙_}
+use mathlib.Core.List.{List, [], _∷_}
+use Prim.Native.Nat.{suc}
+use lib.ListN.{length}
 use Rattle.meaning.specs.Strings.{Bit, O, I, ones, zeros, Run, run, lead, runs, marks, R1, R0}
 
 -- does a run of bits b end before bs?

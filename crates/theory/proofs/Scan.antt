@@ -1,18 +1,18 @@
 -- T4 with the limit, T6: the reading accepts exactly the strings of trees, and names the first place that begins none.
-use mathlib.Core.Path.{_≡_, refl, sym, ap, ap₂, _∙_, subst}
+use mathlib.Core.Path.{_≡_, refl, sym, ap, _∙_, subst}
 use mathlib.Core.Logic.{_⊎_, inl, inr}
 use mathlib.Core.Option.{Option, none, some}
-use mathlib.Core.List.{List, [], _∷_, _++_, append-nil, append-assoc}
-use Prim.Native.Nat.{ℕ, zero, suc, _+_, _-_, _≤_, _<_}
-use native.Mathlib.Nat.{add-zero, add-suc, suc-add, zero-add}
+use mathlib.Core.List.{List, [], _∷_, _++_}
+use Prim.Native.Nat.{ℕ, zero, suc, _+_, _≤_, _<_}
+use native.Mathlib.Nat.{add-zero, add-suc, suc-add}
 use native.Mathlib.Omega.{arith}
 use lib.ListN.{length, take, drop, replicate, length-map, take-append-drop}
 use lib.Seq.{take-take}
 use Rattle.meaning.specs.Trees.{Tree, degreeOf, degrees, levelOrder, nodes}
-use Rattle.meaning.specs.Strings.{Bit, O, I, unary, lbs, strings, ones, zeros}
+use Rattle.meaning.specs.Strings.{Bit, O, I, unary, lbs, strings, ones}
 use Rattle.meaning.specs.Scan.{Kind, one, many, Small, AsMany, Good, Begins, Place, State, closed, begun, inside, begin, step, atEnd, refusal, place}
 use Rattle.theory.proofs.Build.{Done, degrees-done}
-use Rattle.theory.proofs.Bits.{Over, IsString, over-unary, string-of-tree, tree-of-string}
+use Rattle.theory.proofs.Bits.{Over, string-of-tree, tree-of-string}
 
 -- ---- counts
 

@@ -1,19 +1,22 @@
 -- What the theory promises of trees, parent lists, strings, packs and images, in the order of the customer's demands.
 -- Each name is a statement; crates/theory/proofs/Promises.antt has a proof of each.
 use mathlib.Core.Path.{_≡_}
-use mathlib.Core.Bool.{true, false}
+use mathlib.Core.Bool.{false}
 use mathlib.Core.List.{List, [], _∷_, _++_, map}
-use mathlib.Core.Logic.{_↔_, _⊎_}
-use Prim.Native.Nat.{ℕ, zero, suc, _+_, _-_, _*_, _≤_, _<_}
-use lib.IntN.{ℤ, pos, negsuc}
+use mathlib.Core.Logic.{_↔_}
+use Prim.Native.Nat.{ℕ, suc, _+_, _-_, _*_, _≤_, _<_}
+use lib.IntN.{ℤ, pos}
 use lib.ListN.{length, getD, take, drop}
-use Rattle.meaning.specs.Trees.{Tree, Node, depth, childNodes, endToEnd, levelOrder, nodes}
+use Rattle.meaning.specs.Trees.{Tree, depth, childNodes, endToEnd, levelOrder, nodes}
 use Rattle.meaning.specs.Parents.{parents, entry, IsParents, Lowest, badEntry}
 use Rattle.meaning.specs.Strings.{Bit, O, I, ones, zeros, lbs, strings, R1, R0, parentsOf, stringOf, woven}
+use Rattle.meaning.specs.Bytes.{bitsFrom, bytesFor, leftover, packed}
 use Rattle.meaning.specs.Scan.{Kind, one, many, Small, Place, place}
 use Rattle.meaning.specs.Packs.{startsOf, sizesOf, sizes, starts}
-use Rattle.meaning.specs.Questions.{Ask, childrenOf, siblingsOf, siblingAt, answer}
+use Rattle.meaning.specs.Questions.{Ask, childrenOf, siblingsOf, rankOf, siblingAt, answer}
+use Rattle.meaning.specs.Listing.{listing, deep}
 use Rattle.theory.specs.Rank.{onesLeft, position, onesBefore, counting, withChildren}
+use Rattle.theory.specs.Layout.{AreBytes}
 use Rattle.theory.specs.Walks.{root, nodeAt, Number, Gives, everything, Lists, AllBelow, FirstAt}
 
 -- ---- Level order.
@@ -60,6 +63,14 @@ abbrev pub RefusedThere : Type 0
 RefusedThere = (kind : Kind) (bs : List Bit) → (place kind bs ≡ 0 → ⊥)
     → Place kind bs (place kind bs) × ((p : ℕ) → Place kind bs p → p ≡ place kind bs)
 
+-- the bytes of bits: as many as document 01 says, leftover bits zero, and reading gives the bits back
+abbrev pub BytesBack : Type 0
+BytesBack = (bs : List Bit) → (length (packed bs) ≡ bytesFor (length bs)) × (leftover (packed bs) (length bs) ≡ false) × (bitsFrom (packed bs) 0 (length bs) ≡ bs)
+
+-- no other bytes do: of that many bytes with leftover bits zero, what is read and written back is the same
+abbrev pub OneBytes : Type 0
+OneBytes = (bytes : List ℕ) (L : ℕ) → AreBytes bytes → length bytes ≡ bytesFor L → leftover bytes L ≡ false → packed (bitsFrom bytes 0 L) ≡ bytes
+
 -- ---- Demand 2: partitioned strings.
 
 -- R1 has n bits, R0 n + 1; both have m ones, where m is one more than the number of nodes with children
@@ -94,6 +105,39 @@ LeafByStrings = (t : Tree) (x : ℕ) → 1 ≤ x → x ≤ nodes t → (getD (R0
 -- and has a next sibling, x + 1, exactly if R1 has 0 at x
 abbrev pub NextByStrings : Type 0
 NextByStrings = (t : Tree) (x : ℕ) → 1 ≤ x → x ≤ nodes t → (getD (R1 (lbs t)) (x - 1) I ≡ O) ↔ (siblingAt (parents t) x (pos 1) ≡ x + 1)
+
+-- ---- Demand 2: the tree's own answers. Node number x is the x-th in level order, and known by its address.
+
+-- an address has one number
+abbrev pub OneNumber : Type 0
+OneNumber = (t : Tree) (a : List ℕ) (x y : ℕ) → Number t a x → Number t a y → x ≡ y
+
+-- what the parent list gives as children of x are, in order, the numbers of the children of the x-th node
+abbrev pub OwnChildren : Type 0
+OwnChildren = (t : Tree) (x : ℕ) → 1 ≤ x → x ≤ nodes t → map (nodeAt t) (childrenOf (parents t) x) ≡ childNodes (nodeAt t x)
+
+-- its parent is the number of the node that has it as a child, at the depth above; and its siblings are that node's children
+abbrev pub OwnParent : Type 0
+OwnParent = (t : Tree) (x : ℕ) → 2 ≤ x → x ≤ nodes t
+    → let p = entry (parents t) x in
+    (1 ≤ p) × (p < x)
+    × (nodeAt t x .address ≡ rankOf (parents t) x ∷ nodeAt t p .address)
+    × (depth (nodeAt t x) ≡ suc (depth (nodeAt t p)))
+    × (map (nodeAt t) (siblingsOf (parents t) x) ≡ childNodes (nodeAt t p))
+
+-- each answer, of all ten kinds, for every node and argument, is the one the tree itself gives
+abbrev pub OwnAnswer : Type 0
+OwnAnswer = (t : Tree) (kind : Ask) (x : ℕ) → 1 ≤ x → x ≤ nodes t → (z : ℤ)
+    → Gives t kind (nodeAt t x .address) (nodeAt t x .below) z (answer (parents t) kind x z)
+
+-- the listing is the depth-first order of everything below x, with depths, if no node below it is at depth 64
+abbrev pub OwnListing : Type 0
+OwnListing = (t : Tree) (x : ℕ) → 1 ≤ x → x ≤ nodes t
+    → let v = nodeAt t x in
+    let pairs = listing 65 (parents t) x 0 in
+    ((deep pairs ≡ 0) ↔ AllBelow (64 + depth v) (everything v))
+    × (deep pairs ≡ 0 → Lists t (depth v) (everything v) pairs)
+    × ((deep pairs ≡ 0 → ⊥) → FirstAt t (64 + depth v) (everything v) (deep pairs))
 
 -- ---- Demand 3.
 

@@ -1,12 +1,12 @@
 -- What a tree itself answers, by the addresses of its nodes, and its depth-first order: against these the answers of `meaning` are held.
 use mathlib.Core.Path.{_≡_}
-use mathlib.Core.Bool.{Bool, cond}
+use mathlib.Core.Bool.{cond}
 use mathlib.Core.List.{List, [], _∷_, _++_}
 use mathlib.Core.Logic.{_⊎_}
 use Prim.Native.Nat.{ℕ, zero, suc, _+_, _-_, _≤_, _<_}
 use lib.Dec.{ltb}
 use lib.IntN.{ℤ, pos, negsuc}
-use lib.ListN.{length, getD}
+use lib.ListN.{getD}
 use Rattle.meaning.specs.Trees as Tree
 use Rattle.meaning.specs.Trees.{Tree, Trees, node, none, _then_, Node, depth, levelOrder, nodes}
 use Rattle.meaning.specs.Questions.{Ask, parent, firstChild, lastChild, nextSibling, previousSibling, degree, rank, child, leaf, sibling, isNone}
