@@ -17,8 +17,8 @@ abbrev pub _at_when_ : ℕ → ℕ → Bool → Row
 c at p when b = record { code = c; place = p; holds = b }
 
 -- on refusal the counts are 0
-abbrev pub refused : Row → Answer
-refused r = record { code = r .code; place = r .place; first = 0; second = 0 }
+abbrev pub refusedWith : ℕ → ℕ → Answer
+refusedWith c p = record { code = c; place = p; first = 0; second = 0 }
 
 -- on 0 the place is 0
 abbrev pub counts : ℕ → ℕ → Answer
@@ -33,7 +33,7 @@ pub record Outcome (A : Type 0) : Type 0 where
 unfoldable pub settle : {A : Type 0} → (before : A) → List Row → (a : Answer) → (after : A) → Outcome A
 settle before [] a after = record { answer = a; lent = after }
 settle before (r ∷ rs) a after =
-    let rest = settle before rs a after in cond (r .holds) (record { answer = refused r; lent = before }) rest
+    let rest = settle before rs a after in cond (r .holds) (record { answer = refusedWith (r .code) (r .place); lent = before }) rest
 
 -- only the needed first part of an output is written
 abbrev pub written : {A : Type 0} → List A → List A → List A

@@ -7,7 +7,7 @@ use Rattle.meaning.specs.declared.Answer.{Answer}
 use Rattle.meaning.specs.Strings.{stringOf}
 use Rattle.meaning.specs.Blocks.{le32, wordBytes}
 use Rattle.meaning.specs.Image.{imageOfString}
-use Rattle.meaning.specs.Answers.{Outcome, counts}
+use Rattle.meaning.specs.Answers.{Outcome, refusedWith, counts}
 use Rattle.meaning.specs.Calls.{stringOfParents, parentsOfString, imageOfParents, parentsOfImage, checkImage, askImage, listImage, splitPack, joinPack}
 
 -- ---- A call with its inputs, and what comes back: the answer, and each lent list that may be written.
@@ -56,7 +56,7 @@ c gives a with lists = record { call = c; back = record { answer = a; lent = lis
 -- code and place
 infix 70 code_place_
 abbrev code_place_ : ℕ → ℕ → Answer
-code c place p = record { code = c; place = p; first = 0; second = 0 }
+code c place p = refusedWith c p
 
 -- ---- What the rows speak of.
 

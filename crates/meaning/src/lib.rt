@@ -1,8 +1,69 @@
-// What every call answers: document 01's code, the place that goes with it, and two counts.
+// What every call answers, the codes and the limits of document 01.
+ghost use mathlib.Core.Path.{_≡_};
+ghost use Rattle.meaning.specs.Answers.{refusedWith, counts};
+
+// A code, the place that goes with it, and two counts. On refusal the counts are 0; on code 0 the place is 0.
 #[repr(C)]
 pub struct Answer {
     pub code: u32,
     pub place: u32,
     pub first: u32,
     pub second: u32,
+}
+
+// Document 01's table, by code.
+pub const NO_ROOM: u32 = 1;
+
+pub const WRONG_SIZE: u32 = 2;
+
+pub const NOT_PARENTS: u32 = 3;
+
+pub const NOT_STRING: u32 = 4;
+
+pub const LEFTOVER_SET: u32 = 5;
+
+pub const WRONG_SUMS: u32 = 6;
+
+pub const NOT_IMAGE: u32 = 7;
+
+pub const NOT_ALLOWED: u32 = 8;
+
+pub const TOO_DEEP: u32 = 9;
+
+pub const OTHER_TREES: u32 = 10;
+
+pub const MOST_NODES: usize = 65535;
+
+pub const MOST_BITS: usize = 131071;
+
+pub const MOST_TREES: usize = 256;
+
+pub const MOST_QUESTIONS: usize = 256;
+
+pub const FEWEST_BLOCKS: usize = 5;
+
+pub const MOST_BLOCKS: usize = 53;
+
+pub const MOST_DEPTH: usize = 64;
+
+pub fn refuse(code: u32, place: u32) -> Answer
+    ensures { λ r. ⌜ r ≡ refusedWith code place ⌝ }
+{
+    Answer {
+        code: code,
+        place: place,
+        first: 0,
+        second: 0,
+    }
+}
+
+pub fn done(first: u32, second: u32) -> Answer
+    ensures { λ r. ⌜ r ≡ counts first second ⌝ }
+{
+    Answer {
+        code: 0,
+        place: 0,
+        first: first,
+        second: second,
+    }
 }

@@ -13,10 +13,10 @@ use Rattle.meaning.specs.Questions.{childrenOf, rankOf}
 use Rattle.theory.specs.Rank.{onesBefore, counting}
 use Rattle.theory.specs.Walks.{root, nodeAt, Number}
 use Rattle.theory.proofs.Levels.{level-law}
-use Rattle.theory.proofs.Navigate.{parents-bits, children-are, ranked, Rank, onesBefore-zero}
+use Rattle.theory.proofs.Navigate.{children-are, ranked, Rank, onesBefore-zero}
 use Rattle.theory.proofs.Answers.{lo, degree-is}
 use Rattle.theory.proofs.Parents.{parents-are}
-use Rattle.theory.proofs.Forms.{length-before}
+use Rattle.theory.proofs.Forms.{length-parents}
 use Rattle.theory.proofs.Scan.{nodes-ones}
 
 -- ---- children of one node
@@ -88,9 +88,6 @@ map-counting f d (x ∷ l) i zero e h = absurd (omega arith)
 map-counting f d (x ∷ l) i (suc n) e h =
     ap₂ _∷_ (ap f (sym (add-zero i)) ∙ h 0 (omega arith))
     (map-counting f d l (suc i) n (omega arith) (λ j k. ap f (let g : suc i + j ≡ i + suc j = omega arith in g) ∙ h (suc j) (omega arith)))
-
-pub length-parents : (t : Tree) → length (parents t) ≡ nodes t
-length-parents t = ap length (parents-bits t) ∙ length-before (lbs t) 0 ∙ sym (nodes-ones t)
 
 -- number x is that of a child of node p: what the parent list says of x, and what the tree says
 pub record IsChild (t : Tree) (x p : ℕ) : Type 0 where

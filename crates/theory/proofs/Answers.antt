@@ -59,7 +59,7 @@ module _ (t : Tree) where
     abbrev pub p : ℕ
     p = entry (parents t) x
 
-    placed : Rank t x p
+    pub placed : Rank t x p
     placed = go x some node
       where
         go : (x : ℕ) → 1 ≤ x → x ≤ ones (lbs t) → Rank t x (entry (parents t) x)
@@ -96,14 +96,14 @@ module _ (t : Tree) where
         ap₂ entry (children-are t p) (ap (λ k. k - suc a) rank-is)
         ∙ ap (entry (counting (1 + lo p) (lo (suc p) - lo p))) (let e : x - lo p - suc a ≡ 0 = omega arith in e)
 
-    -- x has a next sibling exactly if ends1 has 0 at x
+    -- x has a next sibling exactly if R1 has 0 at x
     pub next-is : (getD (R1 (lbs t)) (x - 1) I ≡ O) ↔ (siblingAt (parents t) x (pos 1) ≡ x + 1)
     next-is = (λ e. right-there 1 (omega (arith, placed .next .0 e)), λ e. placed .next .1 (go e))
       where
         go : siblingAt (parents t) x (pos 1) ≡ x + 1 → x < lo (suc p)
         go e = elim (decLt x (lo (suc p))) [ yes h ↦ h | no h ↦ absurd (omega (arith, right-none 1 (omega arith))) ]
 
-  -- node x is a leaf exactly if ends0 has 0 at x
+  -- node x is a leaf exactly if R0 has 0 at x
   pub leaf-is : (i : ℕ) → suc i ≤ ones (lbs t) → (getD (R0 (lbs t)) i I ≡ O) ↔ (length (childrenOf (parents t) (suc i)) ≡ 0)
   leaf-is i h =
       let m = leaf-mark (lbs t) i (omega (arith, tree-counts t)) in

@@ -88,7 +88,9 @@ digits : (k a b : ℕ) → a < 2 ^ k → b < 2 ^ k → ((j : ℕ) → j < k → 
 digits zero a b h g e = omega arith
 digits (suc k) a b h g e =
     let half : a / 2 ≡ b / 2 = digits k (a / 2) (b / 2) (omega arith) (omega arith)
-    (λ j l. ap (λ x. bit (x % 2)) (shr-shr a 1 j) ∙ subst (λ m. bit (a / 2 ^ m % 2) ≡ bit (b / 2 ^ m % 2)) (let s : suc j ≡ 1 + j = omega arith in s) (e (suc j) (omega arith)) ∙ ap (λ x. bit (x % 2)) (sym (shr-shr b 1 j))) in
+    (λ j l. ap (λ x. bit (x % 2)) (shr-shr a 1 j)
+    ∙ subst (λ m. bit (a / 2 ^ m % 2) ≡ bit (b / 2 ^ m % 2)) (let s : suc j ≡ 1 + j = omega arith in s) (e (suc j) (omega arith))
+    ∙ ap (λ x. bit (x % 2)) (sym (shr-shr b 1 j))) in
     let by-one : (x : ℕ) → x / 1 ≡ x = λ x. omega arith in
     let last : a % 2 ≡ b % 2 = bit-back (a % 2) (b % 2) (mod-lt a (zero-lt-suc 1)) (mod-lt b (zero-lt-suc 1))
     (sym (ap (λ x. bit (x % 2)) (by-one a)) ∙ e 0 (omega arith) ∙ ap (λ x. bit (x % 2)) (by-one b)) in
@@ -151,7 +153,8 @@ wordAt-append xs ys p = omega (arith, at 0, at 1, at 2, at 3, getD-append-add xs
 pub wordAt-front : (xs ys : List ℕ) (p : ℕ) → p + 3 < length xs → wordAt (xs ++ ys) p ≡ wordAt xs p
 unfolding wordAt
 wordAt-front xs ys p h =
-    omega (arith, List·getD-append xs ys 0 p (omega arith), List·getD-append xs ys 0 (p + 1) (omega arith), List·getD-append xs ys 0 (p + 2) (omega arith), List·getD-append xs ys 0 (p + 3) (omega arith))
+    let at = List·getD-append xs ys 0 in
+    omega (arith, at p (omega arith), at (p + 1) (omega arith), at (p + 2) (omega arith), at (p + 3) (omega arith))
 
 pub wordAt-take : (n : ℕ) (xs : List ℕ) (p : ℕ) → p + 3 < n → wordAt (take n xs) p ≡ wordAt xs p
 unfolding wordAt
@@ -180,10 +183,25 @@ le32-word w h =
     four : (w x y z r s t : ℕ) → w ≡ 256 * x + r → x ≡ 256 * y + s → y ≡ 256 * z + t → r + 256 * s + 65536 * t + 16777216 * z ≡ w
     four w x y z r s t e f g = omega arith
 
+-- the word that le32 begins with
+pub le32-first : (w : ℕ) (ys : List ℕ) → w < 2 ^ 32 → wordAt (le32 w ++ ys) 0 ≡ w
+unfolding wordAt
+le32-first w ys h = le32-word w h
+
 pub length-wordBytes : (ws : List ℕ) → length (wordBytes ws) ≡ 4 * length ws
 unfolding wordBytes
 length-wordBytes [] = refl
 length-wordBytes (w ∷ ws) = omega (arith, length-wordBytes ws)
+
+-- byte k of word i
+pub wordBytes-byte : (ws : List ℕ) (i k : ℕ) → i < length ws → k < 4 → getD (wordBytes ws) (4 * i + k) 0 ≡ getD (le32 (getD ws i 0)) k 0
+unfolding wordBytes
+wordBytes-byte [] i k h g = absurd (omega arith)
+wordBytes-byte (w ∷ ws) zero k h g =
+    ap (λ n. getD (le32 w ++ wordBytes ws) n 0) (let e : 4 * 0 + k ≡ k = omega arith in e) ∙ List·getD-append (le32 w) (wordBytes ws) 0 k (omega arith)
+wordBytes-byte (w ∷ ws) (suc i) k h g =
+    ap (λ n. getD (le32 w ++ wordBytes ws) n 0) (let e : 4 * suc i + k ≡ length (le32 w) + (4 * i + k) = omega arith in e)
+    ∙ getD-append-add (le32 w) (wordBytes ws) (4 * i + k) 0 ∙ wordBytes-byte ws i k (omega arith) g
 
 pub wordBytes-at : (ws : List ℕ) (i : ℕ) → getD ws i 0 < 2 ^ 32 → wordAt (wordBytes ws) (4 * i) ≡ getD ws i 0
 unfolding wordBytes wordAt
@@ -256,7 +274,8 @@ same-words k a b ha hb la lb e =
 
 pub bytesOf-word : (n : ℕ) (bs : List Bit) (w : ℕ) → 4 * w + 3 < n → wordAt (bytesOf n bs) (4 * w) ≡ bitWord (drop (32 * w) bs)
 unfolding wordAt bitWord
-bytesOf-word n bs w h = omega (arith, ap (λ i. getD (bytesOf n bs) i 0) (let e : 4 * w + 0 ≡ 4 * w = omega arith in e), at 0 (omega arith), at 1 (omega arith), at 2 (omega arith), at 3 (omega arith))
+bytesOf-word n bs w h =
+    omega (arith, ap (λ i. getD (bytesOf n bs) i 0) (let e : 4 * w + 0 ≡ 4 * w = omega arith in e), at 0 (omega arith), at 1 (omega arith), at 2 (omega arith), at 3 (omega arith))
   where
     at : (k : ℕ) → k < 4 → getD (bytesOf n bs) (4 * w + k) 0 ≡ number 8 (drop (8 * k) (drop (32 * w) bs))
     at k g =

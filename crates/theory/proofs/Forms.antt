@@ -5,12 +5,13 @@ use Prim.Native.Nat.{ℕ, zero, suc, _+_, _-_, _≤_, _<_}
 use native.Mathlib.Nat.{le-refl}
 use native.Mathlib.Omega.{arith}
 use lib.ListN.{length, replicate}
-use Rattle.meaning.specs.Trees.{Tree, degrees}
+use Rattle.meaning.specs.Trees.{Tree, nodes, degrees}
 use Rattle.meaning.specs.Strings.{Bit, O, I, unary, lbs, ones, zeros, R1, R0, zerosBefore, parentsOf, stringFrom, stringOf, weave, woven}
 use Rattle.meaning.specs.Parents.{parents, IsParents}
 use Rattle.theory.specs.Layout.{Runs}
 use Rattle.theory.specs.Rank.{position, some, withChildren}
 use Rattle.theory.proofs.Runs.{ends, ends1, ends0, R1-bits, R0-bits, R1-length, R0-length}
+use Rattle.theory.proofs.Scan.{nodes-ones}
 use Rattle.theory.proofs.Bits.{lbs-injective, Over, string-of-tree}
 use Rattle.theory.proofs.Navigate.{parents-bits}
 use Rattle.theory.proofs.Parents.{are-parents, parents-are}
@@ -223,6 +224,17 @@ marks-count t = ap ones (R1-bits (lbs t)) ∙ ap suc (unary-ends (degrees t))
 
 pub marks-same : (t : Tree) → ones (R0 (lbs t)) ≡ ones (R1 (lbs t))
 marks-same t = let r = tree-runs t in runs-ones (r .0) (R0 (lbs t)) (r .2) ∙ sym (runs-ones (r .0) (R1 (lbs t)) (r .1))
+
+-- ---- how long each form is
+
+pub length-parents : (t : Tree) → length (parents t) ≡ nodes t
+length-parents t = ap length (parents-bits t) ∙ length-before (lbs t) 0 ∙ sym (nodes-ones t)
+
+pub length-R1 : (t : Tree) → length (R1 (lbs t)) ≡ nodes t
+length-R1 t = R1-length (lbs t) ∙ sym (nodes-ones t)
+
+pub length-R0 : (t : Tree) → length (R0 (lbs t)) ≡ suc (nodes t)
+length-R0 t = R0-length (lbs t) ∙ tree-counts t ∙ ap suc (sym (nodes-ones t))
 
 -- ---- select from a sample: a one after the first part is found in the second
 

@@ -1,3 +1,4 @@
+pub mod Settled
 pub mod Order
 pub mod Levels
 pub mod Build
@@ -13,7 +14,12 @@ pub mod Forms
 pub mod Packs
 pub mod Digits
 pub mod Packing
+pub mod Sealing
+pub mod Payloads
+pub mod Images
+pub mod TreeImages
 pub mod Addresses
 pub mod OwnAnswers
 pub mod Depths
+pub mod ByStrings
 pub mod Promises

@@ -16,7 +16,7 @@ over-counts (suc c) [] h = absurd h
 over-counts (suc c) (I ∷ bs) h = omega (arith, over-counts (suc (suc c)) bs h)
 over-counts (suc c) (O ∷ bs) h = omega (arith, over-counts c bs h)
 
-ones-append : (xs ys : List Bit) → ones (xs ++ ys) ≡ ones xs + ones ys
+pub ones-append : (xs ys : List Bit) → ones (xs ++ ys) ≡ ones xs + ones ys
 ones-append [] ys = omega arith
 ones-append (O ∷ xs) ys = ones-append xs ys
 ones-append (I ∷ xs) ys = omega (arith, ones-append xs ys)

@@ -8,27 +8,36 @@ use native.Mathlib.Omega.{arith}
 use lib.ListN.{length, getD}
 use Rattle.meaning.specs.Trees.{Tree, nodes}
 use Rattle.meaning.specs.Parents.{parents, entry, IsParents, Lowest, badEntry}
-use Rattle.meaning.specs.Strings.{O, I, lbs, strings, R0, parentsOf}
+use Rattle.meaning.specs.Strings.{R1, O, I, lbs, strings, R0, parentsOf}
 use Rattle.meaning.specs.Scan.{one, many, Small, Good, place}
 use Rattle.meaning.specs.Packs.{sizes}
 use Rattle.meaning.specs.Questions.{childrenOf, siblingsOf}
 use Rattle.theory.specs.Rank.{onesBefore}
+use Rattle.meaning.specs.Blocks.{blocksIn}
+use Rattle.meaning.specs.Image.{imageOfString, image}
+use Rattle.theory.specs.Layout.{total}
 use Rattle.theory.specs.Promises as P
+use Rattle.theory.proofs.Settled.{settled}
 use Rattle.theory.proofs.Levels.{level-law}
 use Rattle.theory.proofs.Bits.{prefix-free, strings-injective}
 use Rattle.theory.proofs.Parents.{parents-are, are-parents, parents-injective}
 use Rattle.theory.proofs.Lowest.{badEntry-is, parents-badEntry}
 use Rattle.theory.proofs.Scan.{nodes-ones, place-good, good-place, place-is, place-unique, not-before}
 use Rattle.theory.proofs.Odd.{tree-counts, never-odd}
-use Rattle.theory.proofs.Runs.{R1-length, R0-length}
 use Rattle.theory.proofs.Navigate.{children-are, counted, parents-bits, parent-is, ones-before-is}
 use Rattle.theory.proofs.Answers.{leaf-is, next-is}
-use Rattle.theory.proofs.Forms.{length-before, string-parents, string-parts, parts-injective, marks-count, marks-same}
+use Rattle.theory.proofs.Forms.{length-parents, length-R1, length-R0, string-parents, string-parts, parts-injective, marks-count, marks-same}
 use Rattle.theory.proofs.Addresses.{children-nodes, is-child, number-unique}
 use Rattle.theory.proofs.OwnAnswers.{own-answer}
 use Rattle.theory.proofs.Depths.{not-deep, deep-none, listing-whole, first-deep}
+use Rattle.theory.proofs.ByStrings.{answers-by-strings}
+use Rattle.theory.proofs.Payloads.{sample-at}
+use Rattle.theory.proofs.TreeImages.{parents-in, image-injective, is-image, image-laid, image-size, image-checks, image-least, image-most}
 use Rattle.theory.proofs.Packing.{packed-length, packed-leftover, packed-read, read-packed}
 use Rattle.theory.proofs.Packs.{starts-are, sizes-are, found-is, part-is}
+
+pub upper-row-wins : P.UpperRowWins
+upper-row-wins A before rows a after = settled before a after rows
 
 pub level-order : P.LevelOrder
 level-order t = level-law t
@@ -56,8 +65,7 @@ lowest-entry ps l = ((λ e. sound e (badEntry-is ps l), λ h. parents-badEntry p
 
 pub string-counts : P.StringCounts
 string-counts t =
-    let l = length-before (lbs t) 0 in
-    (omega (arith, nodes-ones t), omega (arith, nodes-ones t, tree-counts t), ap length (parents-bits t) ∙ omega (arith, l, nodes-ones t))
+    (sym (nodes-ones t), omega (arith, nodes-ones t, tree-counts t), length-parents t)
 
 pub string-back : P.StringBack
 unfolding parentsOf
@@ -101,8 +109,8 @@ one-bytes bytes L b l e = read-packed bytes L b l e
 
 pub part-counts : P.PartCounts
 part-counts t = (
-  omega (arith, R1-length (lbs t), nodes-ones t),
-  omega (arith, R0-length (lbs t), nodes-ones t, tree-counts t),
+  length-R1 t,
+  omega (arith, length-R0 t),
   omega (arith, marks-count t),
   omega (arith, marks-count t, marks-same t),
 )
@@ -133,6 +141,9 @@ leaf-by-strings t (suc i) h l =
 pub next-by-strings : P.NextByStrings
 next-by-strings t x h l = next-is t x h (omega (arith, nodes-ones t))
 
+pub all-by-strings : P.AnswersByStrings
+all-by-strings t kind x g h z = answers-by-strings t kind x g h z
+
 -- ---- the tree's own answers
 
 pub one-number : P.OneNumber
@@ -152,6 +163,26 @@ own-answers t kind x g h z = own-answer t kind x g h z
 
 pub own-listing : P.OwnListing
 own-listing t x g h = ((λ e. not-deep t x g h e, λ a. deep-none t x g h a), λ e. listing-whole t x g h e, λ n. first-deep t x g h n)
+
+-- ---- images
+
+pub image-accepted : P.ImageAccepted
+image-accepted bytes = is-image bytes
+
+pub image-back : P.ImageBack
+unfolding image
+image-back t h = (ap imageOfString (string-parents t), parents-in t h, λ u g e. image-injective t u h g e)
+
+pub image-has-blocks : P.ImageBlocks
+image-has-blocks t h =
+    let n : blocksIn (image t) ≡ total (R1 (lbs t)) (R0 (lbs t)) = omega (arith, image-size t) in
+    (omega (arith, image-size t), omega (arith, image-least t), omega (arith, image-most t h), image-checks t)
+
+pub image-is-laid : P.ImageLaid
+image-is-laid bytes b = image-laid bytes b
+
+pub samples-are : P.SamplesAre
+samples-are bs j h = sample-at bs j h
 
 -- ---- packs
 

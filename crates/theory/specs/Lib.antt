@@ -1,4 +1,5 @@
 pub mod Rank
+pub mod ByStrings
 pub mod Walks
 pub mod Layout
 pub mod Promises

@@ -1,9 +1,9 @@
 -- What the theory promises of trees, parent lists, strings, packs and images, in the order of the customer's demands.
 -- Each name is a statement; crates/theory/proofs/Promises.antt has a proof of each.
 use mathlib.Core.Path.{_≡_}
-use mathlib.Core.Bool.{false}
+use mathlib.Core.Bool.{true, false}
 use mathlib.Core.List.{List, [], _∷_, _++_, map}
-use mathlib.Core.Logic.{_↔_}
+use mathlib.Core.Logic.{_↔_, _⊎_}
 use Prim.Native.Nat.{ℕ, suc, _+_, _-_, _*_, _≤_, _<_}
 use lib.IntN.{ℤ, pos}
 use lib.ListN.{length, getD, take, drop}
@@ -11,13 +11,42 @@ use Rattle.meaning.specs.Trees.{Tree, depth, childNodes, endToEnd, levelOrder, 
 use Rattle.meaning.specs.Parents.{parents, entry, IsParents, Lowest, badEntry}
 use Rattle.meaning.specs.Strings.{Bit, O, I, ones, zeros, lbs, strings, R1, R0, parentsOf, stringOf, woven}
 use Rattle.meaning.specs.Bytes.{bitsFrom, bytesFor, leftover, packed}
+use Rattle.meaning.specs.Blocks.{blocksIn, wrongBlock}
+use Rattle.meaning.specs.Image.{imageOfString, image, parentsIn, isImage, samples}
 use Rattle.meaning.specs.Scan.{Kind, one, many, Small, Place, place}
 use Rattle.meaning.specs.Packs.{startsOf, sizesOf, sizes, starts}
 use Rattle.meaning.specs.Questions.{Ask, childrenOf, siblingsOf, rankOf, siblingAt, answer}
 use Rattle.meaning.specs.Listing.{listing, deep}
+use Rattle.meaning.specs.declared.Answer.{Answer}
+use Rattle.meaning.specs.Answers.{Row, Outcome, refusedWith, settle}
 use Rattle.theory.specs.Rank.{onesLeft, position, onesBefore, counting, withChildren}
-use Rattle.theory.specs.Layout.{AreBytes}
+use Rattle.theory.specs.ByStrings.{byStrings}
+use Rattle.theory.specs.Layout.{AreBytes, Runs, Laid}
 use Rattle.theory.specs.Walks.{root, nodeAt, Number, Gives, everything, Lists, AllBelow, FirstAt}
+
+-- ---- Demand 1: what a call comes to.
+
+abbrev pub NoneHolds : List Row → Type 0
+NoneHolds [] = Unit
+NoneHolds (r ∷ rs) = (r .holds ≡ false) × NoneHolds rs
+
+-- the outcome o is that of the uppermost row that holds: its code and place, counts 0, and every lent list as before
+pub record Refused {A : Type 0} (before : A) (rows : List Row) (o : Outcome A) : Type 0 where
+  pub upper : List Row
+  pub row : Row
+  pub lower : List Row
+  pub here : rows ≡ upper ++ row ∷ lower
+  pub none : NoneHolds upper
+  pub holds : row .holds ≡ true
+  pub is : o ≡ record { answer = refusedWith (row .code) (row .place); lent = before }
+
+-- no row holds and the outcome is the result; or one does, and the call is refused
+abbrev pub Wins : {A : Type 0} → A → List Row → Answer → A → Outcome A → Type 0
+Wins before rows a after o = (NoneHolds rows × (o ≡ record { answer = a; lent = after })) ⊎ Refused before rows o
+
+-- so it is for every call of specs/Calls.antt, since each is settled by its rows
+abbrev pub UpperRowWins : Type 1
+UpperRowWins = (A : Type 0) (before : A) (rows : List Row) (a : Answer) (after : A) → Wins before rows a after (settle before rows a after)
 
 -- ---- Level order.
 
@@ -106,6 +135,11 @@ LeafByStrings = (t : Tree) (x : ℕ) → 1 ≤ x → x ≤ nodes t → (getD (R0
 abbrev pub NextByStrings : Type 0
 NextByStrings = (t : Tree) (x : ℕ) → 1 ≤ x → x ≤ nodes t → (getD (R1 (lbs t)) (x - 1) I ≡ O) ↔ (siblingAt (parents t) x (pos 1) ≡ x + 1)
 
+-- so each answer, of all ten kinds, is given by R1 and R0 alone
+abbrev pub AnswersByStrings : Type 0
+AnswersByStrings = (t : Tree) (kind : Ask) (x : ℕ) → 1 ≤ x → x ≤ nodes t → (z : ℤ)
+    → answer (parents t) kind x z ≡ byStrings (R1 (lbs t)) (R0 (lbs t)) kind x z
+
 -- ---- Demand 2: the tree's own answers. Node number x is the x-th in level order, and known by its address.
 
 -- an address has one number
@@ -138,6 +172,34 @@ OwnListing = (t : Tree) (x : ℕ) → 1 ≤ x → x ≤ nodes t
     ((deep pairs ≡ 0) ↔ AllBelow (64 + depth v) (everything v))
     × (deep pairs ≡ 0 → Lists t (depth v) (everything v) pairs)
     × ((deep pairs ≡ 0 → ⊥) → FirstAt t (64 + depth v) (everything v) (deep pairs))
+
+-- ---- Demand 2: images.
+
+-- bytes are an image exactly if some tree of 1 to 65,535 nodes gives them
+abbrev pub ImageAccepted : Type 0
+ImageAccepted = (bytes : List ℕ) → (isImage bytes ≡ true) ↔ ((t : Tree) × (nodes t ≤ 65535) × (image t ≡ bytes))
+
+-- the same tree comes back from its image; two trees never give one image
+abbrev pub ImageBack : Type 0
+ImageBack = (t : Tree) → nodes t ≤ 65535
+    → (imageOfString (stringOf (parents t)) ≡ image t) × (parentsIn (image t) ≡ parents t)
+    × ((u : Tree) → nodes u ≤ 65535 → image t ≡ image u → t ≡ u)
+
+-- an image has whole blocks, 5 to 53 of them, and all of them check
+abbrev pub ImageBlocks : Type 0
+ImageBlocks = (t : Tree) → nodes t ≤ 65535
+    → (length (image t) ≡ 512 * blocksIn (image t)) × (5 ≤ blocksIn (image t)) × (blocksIn (image t) ≤ 53) × (wrongBlock (image t) ≡ blocksIn (image t))
+
+-- what R1, R0, counts, samples and padding must be for some tree to give these bytes, and that this is enough
+abbrev pub ImageLaid : Type 0
+ImageLaid = (bytes : List ℕ) → AreBytes bytes
+    → ((t : Tree) × (nodes t ≤ 65535) × (image t ≡ bytes))
+    ↔ ((m : ℕ) × (a : List Bit) × (b : List Bit) × Runs m a × Runs m b
+    × (length b ≡ suc (length a)) × (length a ≤ 65535) × IsParents (parentsOf (woven a b)) × Laid bytes a b)
+
+-- sample number j, from 0, is the position of one number 64 j + 1
+abbrev pub SamplesAre : Type 0
+SamplesAre = (bs : List Bit) (j : ℕ) → j < length (samples bs) → getD (samples bs) j 0 ≡ position bs (64 * j + 1)
 
 -- ---- Demand 3.
 
