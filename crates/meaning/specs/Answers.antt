@@ -29,11 +29,14 @@ pub record Outcome (A : Type 0) : Type 0 where
   pub answer : Answer
   pub lent : A
 
+abbrev pub cameTo : {A : Type 0} → Answer → A → Outcome A
+cameTo a lent = record { answer = a; lent = lent }
+
 -- where several rows hold, the upper one wins, and no lent list changes; where none holds, the answer a and the lists as they are after
 unfoldable pub settle : {A : Type 0} → (before : A) → List Row → (a : Answer) → (after : A) → Outcome A
-settle before [] a after = record { answer = a; lent = after }
+settle before [] a after = cameTo a after
 settle before (r ∷ rs) a after =
-    let rest = settle before rs a after in cond (r .holds) (record { answer = refusedWith (r .code) (r .place); lent = before }) rest
+    let rest = settle before rs a after in cond (r .holds) (cameTo (refusedWith (r .code) (r .place)) before) rest
 
 -- only the needed first part of an output is written
 abbrev pub written : {A : Type 0} → List A → List A → List A

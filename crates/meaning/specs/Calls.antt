@@ -33,7 +33,6 @@ wrongSize image = not (eqb (length image % 512) 0) || outside 5 53 (length image
 -- ---- Strings.
 
 unfoldable pub stringOfParents : List ℕ → List ℕ → Outcome (List ℕ)
-unfolding badEntry stringOf packed settle
 stringOfParents ps bytes =
     let bits = stringOf ps in
     settle bytes
@@ -45,7 +44,6 @@ stringOfParents ps bytes =
     (written (packed bits) bytes)
 
 unfoldable pub parentsOfString : List ℕ → ℕ → List ℕ → Outcome (List ℕ)
-unfolding bitsFrom leftover place parentsOf settle
 parentsOfString bytes L ps =
     let bits = bitsFrom bytes 0 L in
     settle ps
@@ -60,7 +58,6 @@ parentsOfString bytes L ps =
 -- ---- Images.
 
 unfoldable pub imageOfParents : List ℕ → List ℕ → Outcome (List ℕ)
-unfolding badEntry stringOf imageOfString R1 settle
 imageOfParents ps bytes =
     let bits = stringOf ps in
     settle bytes
@@ -73,7 +70,6 @@ imageOfParents ps bytes =
 
 -- every public reading of an image makes the whole check first; w: something else that is lent has a wrong size
 unfoldable pub checkRows : List ℕ → Bool → List Row
-unfolding wrongBlock isImage
 checkRows image w =
     2 at 0 when (wrongSize image || w)
     ∷ 6 at wrongBlock image when ltb (wrongBlock image) (blocksIn image)
@@ -81,13 +77,11 @@ checkRows image w =
     ∷ []
 
 unfoldable pub checkImage : List ℕ → Outcome Unit
-unfolding checkRows parentsIn stringOf R1 settle
 checkImage image =
     let ps = parentsIn image in
     settle tt (checkRows image false) (counts (length ps) (ones (R1 (stringOf ps)))) tt
 
 unfoldable pub parentsOfImage : List ℕ → List ℕ → Outcome (List ℕ)
-unfolding checkRows parentsIn settle
 parentsOfImage image out =
     let ps = parentsIn image in
     settle out
@@ -102,7 +96,6 @@ abbrev pub wrongQuestions : List ℤ → Bool
 wrongQuestions qs = not (eqb (length qs % 3) 0) || ltb 256 (length qs / 3)
 
 unfoldable pub askImage : List ℕ → List ℤ → List ℕ → Outcome (List ℕ)
-unfolding checkRows parentsIn notAllowed answerTo settle
 askImage image qs out =
     let ps = parentsIn image in
     let bad = notAllowed (length ps) (questions qs) 0 in
@@ -116,7 +109,6 @@ askImage image qs out =
     (written answers out)
 
 unfoldable pub listImage : List ℕ → ℕ → List ℕ → Outcome (List ℕ)
-unfolding checkRows parentsIn listing deep settle
 listImage image x out =
     let ps = parentsIn image in
     let pairs = listing 65 ps x 0 in
@@ -132,7 +124,6 @@ listImage image x out =
 -- ---- Packs.
 
 unfoldable pub splitPack : List ℕ → ℕ → ℕ → List ℕ → List ℕ → Outcome (List ℕ × List ℕ)
-unfolding bitsFrom leftover place sizes starts settle
 splitPack bytes L k outStarts outSizes =
     let bits = bitsFrom bytes 0 L in
     let found = length (sizes bits) in
@@ -147,7 +138,6 @@ splitPack bytes L k outStarts outSizes =
     (written (starts bits) outStarts, written (sizes bits) outSizes)
 
 unfoldable pub joinPack : List ℕ → ℕ → ℕ → List ℕ → Outcome (List ℕ)
-unfolding bitsFrom leftover place sizes badEntry stringOf packed settle
 joinPack pack L k ps =
     let bits = bitsFrom pack 0 L in
     let found = length (sizes bits) in

@@ -34,7 +34,6 @@ abbrev two : Outcome (List ℕ × List ℕ) → Back
 two o = record { answer = o .answer; lent = o .lent .0 ∷ o .lent .1 ∷ [] }
 
 unfoldable pub does : Call → Back
-unfolding stringOfParents parentsOfString imageOfParents parentsOfImage checkImage askImage listImage splitPack joinPack
 does (string-of-parents ps out) = one (stringOfParents ps out)
 does (parents-of-string bytes L out) = one (parentsOfString bytes L out)
 does (image-of-parents ps out) = one (imageOfParents ps out)

@@ -1,7 +1,7 @@
 -- T8: the way back from each form: the string of a parent list, and the string of ends1 and ends0.
 use mathlib.Core.Path.{_≡_, refl, sym, ap, ap₂, _∙_, subst}
 use mathlib.Core.List.{List, [], _∷_, _++_}
-use Prim.Native.Nat.{ℕ, zero, suc, _+_, _-_, _≤_, _<_}
+use Prim.Native.Nat.{ℕ, zero, suc, _+_, _-_, _*_, _≤_, _<_}
 use native.Mathlib.Nat.{le-refl}
 use native.Mathlib.Omega.{arith}
 use lib.ListN.{length, replicate}
@@ -235,6 +235,14 @@ length-R1 t = R1-length (lbs t) ∙ sym (nodes-ones t)
 
 pub length-R0 : (t : Tree) → length (R0 (lbs t)) ≡ suc (nodes t)
 length-R0 t = R0-length (lbs t) ∙ tree-counts t ∙ ap suc (sym (nodes-ones t))
+
+-- the string of a parent list has two bits an entry and one more
+pub string-size : (ps : List ℕ) → IsParents ps → length (stringOf ps) ≡ 2 * length ps + 1
+string-size ps h =
+    let r = are-parents ps h in
+    let t = r .0 in
+    let n = length-parents t in
+    ap (λ qs. length (stringOf qs)) (sym (r .1)) ∙ ap length (string-parents t) ∙ omega (arith, both (lbs t), tree-counts t, nodes-ones t, ap length (r .1))
 
 -- ---- select from a sample: a one after the first part is found in the second
 

@@ -135,6 +135,13 @@ parents-badEntry ps h = go (badEntry-is ps (h .some))
     go (inl v) = v .0
     go (inr v) = absurd (lowest-not ps _ v h)
 
+pub bad-within : (ps : List ℕ) → 1 ≤ length ps → badEntry ps ≤ length ps
+bad-within ps h = go (badEntry-is ps h)
+  where
+    go : Says ps (badEntry ps) → badEntry ps ≤ length ps
+    go (inl v) = omega (arith, v .0)
+    go (inr v) = v .to
+
 -- ---- what a loop over the entries needs: the rest of the list at each index
 
 and-false : (a b : Bool) → b ≡ false → a && b ≡ false

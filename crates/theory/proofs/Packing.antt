@@ -1,15 +1,16 @@
 -- Bits in bytes and back: the bytes of given bits are one list, and reading them gives the bits.
-use mathlib.Core.Path.{_≡_, refl, sym, ap, _∙_}
+use mathlib.Core.Path.{_≡_, refl, sym, ap, ap₂, _∙_}
 use mathlib.Core.Bool.{false}
-use mathlib.Core.List.{List, [], _∷_}
-use Prim.Native.Nat.{ℕ, zero, suc, _+_, _-_, _*_, _≤_, _<_}
+use mathlib.Core.List.{List, [], _∷_, _++_}
+use Prim.Native.Nat.{ℕ, zero, suc, _+_, _-_, _*_, _/_, _%_, _^_, _≤_, _<_}
 use native.Mathlib.Decide.{decLt}
+use native.Mathlib.Numerals.{add-one}
 use native.Mathlib.Omega.{arith}
 use borrow.Author.Tests.{ltb-false, le-ltb}
-use lib.ListN.{length, getD, List·getD-eq-default}
-use lib.Seq.{ext-getD}
+use lib.ListN.{length, getD, drop, List·getD-eq-default}
+use lib.Seq.{ext-getD, drop-at}
 use Rattle.meaning.specs.Strings.{Bit, O, I, ones}
-use Rattle.meaning.specs.Bytes.{bitAt, bitsFrom, bytesFor, leftover, packed}
+use Rattle.meaning.specs.Bytes.{bit, bitAt, bitsFrom, bytesFor, leftover, packed}
 use Rattle.theory.specs.Layout.{AreBytes}
 use Rattle.theory.proofs.Bits.{I≢O}
 use Rattle.theory.proofs.Digits.{length-bytesOf, bytesOf-lt, bytesOf-bit, same-bits}
@@ -29,6 +30,45 @@ bits-at bytes p (suc n) (suc i) h = bits-at bytes (suc p) n i (omega arith) ∙ 
 
 bits-first : (bytes : List ℕ) (n i : ℕ) → i < n → getD (bitsFrom bytes 0 n) i O ≡ bitAt bytes i
 bits-first bytes n i h = bits-at bytes 0 n i h ∙ ap (bitAt bytes) (let e : 0 + i ≡ i = omega arith in e)
+
+-- what is read from p on, up to n: the bit at p and what comes after it
+pub rest-cons : (bytes : List ℕ) (p n : ℕ) → p < n → bitsFrom bytes p (n - p) ≡ bitAt bytes p ∷ bitsFrom bytes (p + 1) (n - (p + 1))
+unfolding bitsFrom
+rest-cons bytes p n h =
+    ap (bitsFrom bytes p) (let e : n - p ≡ suc (n - (p + 1)) = omega arith in e)
+    ∙ ap (λ q. bitAt bytes p ∷ bitsFrom bytes q (n - (p + 1))) (sym (add-one p))
+
+pub rest-nil : (bytes : List ℕ) (p n : ℕ) → n ≤ p → bitsFrom bytes p (n - p) ≡ []
+unfolding bitsFrom
+rest-nil bytes p n h = ap (bitsFrom bytes p) (let e : n - p ≡ 0 = omega arith in e)
+
+-- the first k bits, and those after them
+pub bits-cut : (bytes : List ℕ) (k m p : ℕ) → bitsFrom bytes p (k + m) ≡ bitsFrom bytes p k ++ bitsFrom bytes (p + k) m
+unfolding bitsFrom
+bits-cut bytes zero m p = ap₂ (bitsFrom bytes) (let e : p ≡ p + 0 = omega arith in e) (let e : 0 + m ≡ m = omega arith in e)
+bits-cut bytes (suc k) m p =
+    ap (bitsFrom bytes p) (let e : suc k + m ≡ suc (k + m) = omega arith in e)
+    ∙ ap (λ r. bitAt bytes p ∷ r) (bits-cut bytes k m (suc p))
+    ∙ ap (λ q. bitAt bytes p ∷ bitsFrom bytes (suc p) k ++ bitsFrom bytes q m) (let e : suc p + k ≡ p + suc k = omega arith in e)
+
+-- of the bits after the first i, those after the first q
+pub rest-drop : (bytes : List ℕ) (i q n : ℕ) → i ≤ q → q ≤ n → drop (q - i) (bitsFrom bytes i (n - i)) ≡ bitsFrom bytes q (n - q)
+rest-drop bytes i q n h g =
+    ap (λ v. drop (q - i) (bitsFrom bytes i v)) (let e : n - i ≡ q - i + (n - q) = omega arith in e)
+    ∙ ap (drop (q - i)) (bits-cut bytes (q - i) (n - q) i)
+    ∙ drop-at (bitsFrom bytes i (q - i)) (bitsFrom bytes (i + (q - i)) (n - q)) (q - i) (bits-length bytes i (q - i))
+    ∙ ap (λ v. bitsFrom bytes v (n - q)) (let e : i + (q - i) ≡ q = omega arith in e)
+
+-- bits of one byte, read off the whole list
+pub bits-of-byte : (bytes : List ℕ) (i r n : ℕ) → r + n ≤ 8 → bitsFrom bytes (8 * i + r) n ≡ bitsFrom (getD bytes i 0 ∷ []) r n
+unfolding bitsFrom bitAt
+bits-of-byte bytes i r zero h = refl
+bits-of-byte bytes i r (suc n) h =
+    ap₂ _∷_
+    (ap₂ (λ q e. bit (q / 2 ^ (7 - e) % 2))
+    (ap (λ q. getD bytes q 0) (let e : (8 * i + r) / 8 ≡ i = omega arith in e) ∙ ap (λ q. getD (getD bytes i 0 ∷ []) q 0) (let e : 0 ≡ r / 8 = omega arith in e))
+    (let e : (8 * i + r) % 8 ≡ r % 8 = omega arith in e))
+    (ap (λ q. bitsFrom bytes q n) (let e : suc (8 * i + r) ≡ 8 * i + suc r = omega arith in e) ∙ bits-of-byte bytes i (suc r) n (omega arith))
 
 -- ---- no bit is set
 

@@ -16,7 +16,7 @@ abbrev pub Later : ℕ → ℕ → List ℕ → Type 0
 Later i x [] = Unit
 Later i x (p ∷ ps) = (x ≤ p) × (p ≤ i) × Later (suc i) p ps
 
-later-lower : (i x y : ℕ) (ps : List ℕ) → x ≤ y → Later i y ps → Later i x ps
+pub later-lower : (i x y : ℕ) (ps : List ℕ) → x ≤ y → Later i y ps → Later i x ps
 later-lower i x y [] h k = tt
 later-lower i x y (p ∷ ps) h k = (omega arith, k .1, k .2)
 

@@ -18,7 +18,7 @@ use Rattle.meaning.specs.Packs.{startsOf, sizesOf, sizes, starts}
 use Rattle.meaning.specs.Questions.{Ask, childrenOf, siblingsOf, rankOf, siblingAt, answer}
 use Rattle.meaning.specs.Listing.{listing, deep}
 use Rattle.meaning.specs.declared.Answer.{Answer}
-use Rattle.meaning.specs.Answers.{Row, Outcome, refusedWith, settle}
+use Rattle.meaning.specs.Answers.{Row, Outcome, refusedWith, cameTo, settle}
 use Rattle.theory.specs.Rank.{onesLeft, position, onesBefore, counting, withChildren}
 use Rattle.theory.specs.ByStrings.{byStrings}
 use Rattle.theory.specs.Layout.{AreBytes, Runs, Laid}
@@ -38,11 +38,11 @@ pub record Refused {A : Type 0} (before : A) (rows : List Row) (o : Outcome A) :
   pub here : rows ≡ upper ++ row ∷ lower
   pub none : NoneHolds upper
   pub holds : row .holds ≡ true
-  pub is : o ≡ record { answer = refusedWith (row .code) (row .place); lent = before }
+  pub is : o ≡ cameTo (refusedWith (row .code) (row .place)) before
 
 -- no row holds and the outcome is the result; or one does, and the call is refused
 abbrev pub Wins : {A : Type 0} → A → List Row → Answer → A → Outcome A → Type 0
-Wins before rows a after o = (NoneHolds rows × (o ≡ record { answer = a; lent = after })) ⊎ Refused before rows o
+Wins before rows a after o = (NoneHolds rows × (o ≡ cameTo a after)) ⊎ Refused before rows o
 
 -- so it is for every call of specs/Calls.antt, since each is settled by its rows
 abbrev pub UpperRowWins : Type 1

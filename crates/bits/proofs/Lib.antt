@@ -1,0 +1,7 @@
+pub mod Values
+pub mod Table
+pub mod Byte
+pub mod Appending
+pub mod Writing
+pub mod Counting
+pub mod Placing

@@ -1,0 +1,5 @@
+pub mod Writing
+pub mod Leftover
+pub mod Marking
+pub mod Ending
+pub mod Answers
