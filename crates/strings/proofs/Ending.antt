@@ -1,15 +1,14 @@
 -- What the end of the first tree says of bits that are read as one string.
 use mathlib.Core.Path.{_≡_, sym, ap, _∙_}
 use mathlib.Core.List.{List}
-use Prim.Native.Nat.{ℕ, suc, _+_, _-_, _*_, _≤_, _<_}
+use Prim.Native.Nat.{ℕ, _+_, _-_, _≤_}
 use native.Mathlib.Numerals.{add-one}
 use native.Mathlib.Omega.{arith}
-use lib.ListN.{length}
 use Rattle.meaning.specs.Strings.{ones}
 use Rattle.meaning.specs.Bytes.{bitsFrom}
 use Rattle.meaning.specs.Scan.{one, place}
 use Rattle.theory.proofs.Packing.{bits-length}
-use Rattle.scan.specs.Ends.{End, over, refused, treeEnd, endOf}
+use Rattle.scan.specs.Ends.{over, refused, treeEnd, endOf}
 use Rattle.scan.specs.declared.TreeEnd.{TreeEnd}
 use Rattle.scan.specs.declared.TreeEnd.the-variants.{Over, Refused}
 use Rattle.scan.proofs.Ends.{over-within, refused-within, one-refused, one-whole, one-past}

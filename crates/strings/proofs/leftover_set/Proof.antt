@@ -5,26 +5,19 @@ use Rattle.strings.proofs.Leftover.{no-leftover, leftover-is}
 use borrow.Author.Needs.{needs}
 use Rattle.strings.proofs.leftover_set.Statement.{statement}
 use Rattle.strings.proofs.leftover_set.Tie as tie
-use Rattle.strings.proofs.leftover_set.Reads as reads
-use Rattle.strings.proofs.leftover_set.Lts as lts
 
--- src/lib.rt:72:9
 returns : tie.Need-returns
 returns c = no-leftover (c .before .args .b .now) (c .before .args .n) (c .if1 .taken)
 
--- src/lib.rt:74:16
 shared-slice-read-left : tie.Need-shared-slice-read-left
 shared-slice-read-left c = search needs
 
--- src/lib.rt:74:28
 cast-left : tie.Need-cast-left
 cast-left c = search needs
 
--- src/lib.rt:74:16
 shl-left : tie.Need-shl-left
 shl-left c = search needs
 
--- src/lib.rt:66:1
 returns-2 : tie.Need-returns-2
 returns-2 c = leftover-is (c .before .before .args .b .now) (c .before .before .args .n) (omega (arith, c .shared-slice-known .given (c .before .before .args .n / 8))) (c .before .if1 .left)
 

@@ -7,111 +7,79 @@ use Rattle.strings.proofs.Answers.{parents-long, parents-bytes, parents
 use borrow.Author.Needs.{needs}
 use Rattle.strings.proofs.parents_of_string.Statement.{statement}
 use Rattle.strings.proofs.parents_of_string.Tie as tie
-use Rattle.strings.proofs.parents_of_string.Reads as reads
-use Rattle.strings.proofs.parents_of_string.Lts as lts
-use Rattle.meaning.proofs.done.Reads as done-reads
-use Rattle.meaning.proofs.refuse.Reads as refuse-reads
-use Rattle.scan.proofs.tree_end.Reads as tree-end-reads
-use Rattle.strings.proofs.leftover_set.Reads as leftover-set-reads
-use Rattle.strings.proofs.write_parents.Reads as write-parents-reads
 
--- src/lib.rt:138:9
 refuse-requires : tie.Need-refuse-requires
 refuse-requires c κs = search needs
 
--- src/lib.rt:138:9
 returns : tie.Need-returns
 returns c = ap (λ r. cameTo r (c .before .before .before .before .args .parents .now)) (c .refuse .ensures) ∙ parents-long _ _ _ (c .before .if1 .taken)
 
--- src/lib.rt:140:24
 add-if2 : tie.Need-add-if2
 add-if2 c = search needs
 
--- src/lib.rt:141:9
 refuse-requires-2 : tie.Need-refuse-requires-2
 refuse-requires-2 c κs = search needs
 
--- src/lib.rt:141:9
 returns-2 : tie.Need-returns-2
 returns-2 c = ap (λ r. cameTo r (c .before .before .before .before .before .args .parents .now)) (c .refuse2 .ensures) ∙ parents-bytes _ _ _ (c .before .if2 .taken)
 
--- src/lib.rt:143:8
 leftover-set-requires : tie.Need-leftover-set-requires
 leftover-set-requires c κs = search needs
 
--- src/lib.rt:144:9
 refuse-requires-3 : tie.Need-refuse-requires-3
 refuse-requires-3 c κs = search needs
 
--- src/lib.rt:144:9
 returns-3 : tie.Need-returns-3
 returns-3 c = ap (λ r. cameTo r (c .before .before .before .before .before .before .before .args .parents .now)) (c .refuse3 .ensures) ∙ parents-leftover _ _ _ (c .before .before .before .before .if1 .left) (c .before .before .before .if2 .left) (sym (c .before .before .leftover-set .ensures) ∙ c .before .if3 .taken)
 
--- src/lib.rt:146:9
 tree-end-requires : tie.Need-tree-end-requires
 tree-end-requires c κs = search needs
 
--- src/lib.rt:148:26
 enum-known-end : tie.Need-enum-known-end
 enum-known-end c = search needs
 
--- src/lib.rt:148:55
 cast-refuse : tie.Need-cast-refuse
 cast-refuse c = omega (arith, refused-to _ _ _ (c .before .before .before .tree-end .ensures) (c .before .end .given .1))
 
--- src/lib.rt:148:36
 refuse-requires-4 : tie.Need-refuse-requires-4
 refuse-requires-4 c κs = search needs
 
--- src/lib.rt:149:25
 enum-known-end-2 : tie.Need-enum-known-end-2
 enum-known-end-2 c = search needs
 
--- src/lib.rt:151:44
 add-refuse : tie.Need-add-refuse
 add-refuse c = omega (arith, over-to _ _ _ (c .before .before .before .before .tree-end .ensures) (c .before .before .end2 .given .1))
 
--- src/lib.rt:151:43
 cast-refuse-2 : tie.Need-cast-refuse-2
 cast-refuse-2 c = omega (arith, over-to _ _ _ (c .before .before .before .before .tree-end .ensures) (c .before .before .end2 .given .1))
 
--- src/lib.rt:151:17
 refuse-requires-5 : tie.Need-refuse-requires-5
 refuse-requires-5 c κs = search needs
 
--- src/lib.rt:151:17
 returns-4 : tie.Need-returns-4
 returns-4 c = ap (λ r. cameTo r (c .before .before .before .before .before .before .before .before .before .before .before .before .args .parents .now)) (c .refuse5 .ensures) ∙ parents-refused _ _ _ (c .before .before .before .before .before .before .before .before .before .if1 .left) (c .before .before .before .before .before .before .before .before .if2 .left) (sym (c .before .before .before .before .before .before .before .leftover-set .ensures) ∙ c .before .before .before .before .before .before .if3 .left) _ (over-place _ _ _ (c .before .before .before .before .before .tree-end .ensures) (c .before .before .before .end2 .given .1) (c .before .if4 .taken)) (omega arith)
 
--- src/lib.rt:154:17
 refuse-requires-6 : tie.Need-refuse-requires-6
 refuse-requires-6 c κs = search needs
 
--- src/lib.rt:154:17
 returns-5 : tie.Need-returns-5
 returns-5 c = let w = over-whole _ _ _ (c .before .before .before .before .before .before .tree-end .ensures) (c .before .before .before .before .end2 .given .1) (c .before .before .if4 .left) in ap (λ r. cameTo r (c .before .before .before .before .before .before .before .before .before .before .before .before .before .args .parents .now)) (c .refuse6 .ensures) ∙ parents-room _ _ _ (c .before .before .before .before .before .before .before .before .before .before .if1 .left) (c .before .before .before .before .before .before .before .before .before .if2 .left) (sym (c .before .before .before .before .before .before .before .before .leftover-set .ensures) ∙ c .before .before .before .before .before .before .before .if3 .left) (w .0) _ (w .1) (c .before .if5 .taken)
 
--- src/lib.rt:156:13
 write-parents-requires : tie.Need-write-parents-requires
 write-parents-requires c κs = let w = over-whole _ _ _ (c .before .before .before .before .before .before .tree-end .ensures) (c .before .before .before .before .end2 .given .1) (c .before .before .if4 .left) in (omega arith, (omega arith, (sym (w .1), c .before .if5 .left)))
 
--- src/lib.rt:157:18
 cast-done : tie.Need-cast-done
 cast-done c = omega (arith, over-size _ _ _ (c .before .before .before .before .before .before .before .before .before .tree-end .ensures) (c .before .before .before .before .before .before .before .end2 .given .1))
 
--- src/lib.rt:157:13
 done-requires : tie.Need-done-requires
 done-requires c κs = search needs
 
--- src/lib.rt:134:1
 returns-6 : tie.Need-returns-6
 returns-6 c = ap (λ r. cameTo r (c .before .before .before .before .before .before .before .before .before .before .before .args .parents .now)) (c .refuse4 .ensures) ∙ parents-refused _ _ _ (c .before .before .before .before .before .before .before .before .if1 .left) (c .before .before .before .before .before .before .before .if2 .left) (sym (c .before .before .before .before .before .before .leftover-set .ensures) ∙ c .before .before .before .before .before .if3 .left) _ (refused-place _ _ _ (c .before .before .before .before .tree-end .ensures) (c .before .before .end .given .1)) (refused-from _ _ _ (c .before .before .before .before .tree-end .ensures) (c .before .before .end .given .1))
 
--- src/lib.rt:134:1
 same-length : tie.Need-same-length
 same-length c = search needs
 
--- src/lib.rt:134:1
 returns-7 : tie.Need-returns-7
 returns-7 c = let w = over-whole _ _ _ (c .before .before .before .before .before .before .before .before .before .before .tree-end .ensures) (c .before .before .before .before .before .before .before .before .end2 .given .1) (c .before .before .before .before .before .before .if4 .left) in ap₂ (λ r l. cameTo r l) (c .done .ensures) (c .before .before .before .write-parents .ensures) ∙ parents-made _ _ _ (c .before .before .before .before .before .before .before .before .before .before .before .before .before .before .if1 .left) (c .before .before .before .before .before .before .before .before .before .before .before .before .before .if2 .left) (sym (c .before .before .before .before .before .before .before .before .before .before .before .before .leftover-set .ensures) ∙ c .before .before .before .before .before .before .before .before .before .before .before .if3 .left) (w .0) _ (w .1) (c .before .before .before .before .before .if5 .left)
 

@@ -7,10 +7,6 @@ use Rattle.bits.proofs.Values.{value-le}
 use Rattle.strings.proofs.Writing.{Kept, kept-first, kept-next, kept-last, more}
 use Rattle.strings.proofs.write_parents.Statement.{statement}
 use Rattle.strings.proofs.write_parents.Tie as tie
-use Rattle.strings.proofs.write_parents.Reads as reads
-use Rattle.strings.proofs.write_parents.Lts as lts
-use Rattle.bits.proofs.bit_at.Reads as bit-at-reads
-use Rattle.strings.proofs.count.Reads as count-reads
 
 abbrev Inv-loop : tie.InvT-loop
 Inv-loop b n nodes out₀ k₀ p₀ out k p = Kept b n nodes out₀ out k p
@@ -18,55 +14,42 @@ Inv-loop b n nodes out₀ k₀ p₀ out k p = Kept b n nodes out₀ out k p
 abbrev μ-loop : tie.MeasureT-loop
 μ-loop b n nodes out₀ k₀ p₀ out k p = n - p
 
--- src/lib.rt:58:5
 loop-holds : tie.Need-loop-holds Inv-loop μ-loop
 loop-holds c = kept-first _ _ _ _ (c .before .before .pre .1 .1 .0)
 
--- src/lib.rt:59:19
 sub-out : tie.Need-sub-out Inv-loop μ-loop
 sub-out c = omega arith
 
--- src/lib.rt:59:18
 cast-out : tie.Need-cast-out Inv-loop μ-loop
 cast-out c = omega arith
 
--- src/lib.rt:59:9
 mul-out : tie.Need-mul-out Inv-loop μ-loop
 mul-out c = omega arith
 
--- src/lib.rt:59:9
 slice-write-out : tie.Need-slice-write-out Inv-loop μ-loop
 slice-write-out c = omega arith
 
--- src/lib.rt:60:23
 bit-at-requires : tie.Need-bit-at-requires Inv-loop μ-loop
 bit-at-requires c κs = let l = more _ _ _ _ _ _ _ (c .before .loop .inv) (c .loop-test .taken) in search needs
 
--- src/lib.rt:60:17
 count-requires : tie.Need-count-requires Inv-loop μ-loop
 count-requires c κs = search needs
 
--- src/lib.rt:60:13
 add-k : tie.Need-add-k Inv-loop μ-loop
 add-k c = let l = more _ _ _ _ _ _ _ (c .before .before .before .loop .inv) (c .before .before .loop-test .taken) in omega (arith, value-le _ _ (c .before .bit-at .ensures), c .count .ensures)
 
--- src/lib.rt:61:9
 add-p : tie.Need-add-p Inv-loop μ-loop
 add-p c = let l = more _ _ _ _ _ _ _ (c .before .before .before .loop .inv) (c .before .before .loop-test .taken) in omega arith
 
--- src/lib.rt:58:5
 loop-less : tie.Need-loop-less Inv-loop μ-loop
 loop-less c = let l = more _ _ _ _ _ _ _ (c .before .before .before .loop .inv) (c .before .before .loop-test .taken) in omega arith
 
--- src/lib.rt:58:5
 loop-again : tie.Need-loop-again Inv-loop μ-loop
 loop-again c = kept-next _ _ _ _ _ _ _ (c .before .before .before .loop .inv) (c .before .before .loop-test .taken) _ (c .count .ensures ∙ c .before .bit-at .ensures) (c .before .before .before .before .before .before .pre .1 .1 .1)
 
--- src/lib.rt:49:1
 same-length : tie.Need-same-length Inv-loop μ-loop
 same-length c = omega arith
 
--- src/lib.rt:49:1
 returns : tie.Need-returns Inv-loop μ-loop
 returns c = kept-last _ _ _ _ _ _ _ (c .before .loop .inv) (c .loop-test .left) (c .before .before .before .before .pre .1 .1 .0)
 

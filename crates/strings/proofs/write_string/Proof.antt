@@ -6,11 +6,6 @@ use lib.ListN.{length}
 use Rattle.strings.proofs.Marking.{Marked, good-parents, marked-first, marked-next, marked-last, entry-le}
 use Rattle.strings.proofs.write_string.Statement.{statement}
 use Rattle.strings.proofs.write_string.Tie as tie
-use Rattle.strings.proofs.write_string.Reads as reads
-use Rattle.strings.proofs.write_string.Lts as lts
-use Rattle.bits.proofs.blank.Reads as blank-reads
-use Rattle.bits.proofs.set_bit.Reads as set-bit-reads
-use Rattle.strings.proofs.wide.Reads as wide-reads
 
 abbrev Inv-loop : tie.InvT-loop
 Inv-loop buf₀ from ps i₀ buf i = Marked ps from buf₀ buf i
@@ -18,63 +13,48 @@ Inv-loop buf₀ from ps i₀ buf i = Marked ps from buf₀ buf i
 abbrev μ-loop : tie.MeasureT-loop
 μ-loop buf₀ from ps i₀ buf i = length ps - i
 
--- src/lib.rt:76:28
 mul-blank : tie.Need-mul-blank Inv-loop μ-loop
 mul-blank c = omega arith
 
--- src/lib.rt:76:28
 add-blank : tie.Need-add-blank Inv-loop μ-loop
 add-blank c = omega arith
 
--- src/lib.rt:76:5
 blank-requires : tie.Need-blank-requires Inv-loop μ-loop
 blank-requires c κs = search needs
 
--- src/lib.rt:78:5
 loop-holds : tie.Need-loop-holds Inv-loop μ-loop
 loop-holds c = marked-first _ _ _ _ (good-parents _ (c .before .before .before .before .before .before .pre .0) (c .before .before .before .before .before .before .pre .1 .1 .0)) (c .before .before .blank .ensures)
 
--- src/lib.rt:79:28
 add-set-bit : tie.Need-add-set-bit Inv-loop μ-loop
 add-set-bit c = omega arith
 
--- src/lib.rt:79:44
 mul-wide : tie.Need-mul-wide Inv-loop μ-loop
 mul-wide c = omega arith
 
--- src/lib.rt:79:44
 shared-slice-read-wide : tie.Need-shared-slice-read-wide Inv-loop μ-loop
 shared-slice-read-wide c = omega arith
 
--- src/lib.rt:79:39
 wide-requires : tie.Need-wide-requires Inv-loop μ-loop
 wide-requires c κs = search needs
 
--- src/lib.rt:79:28
 add-set-bit-2 : tie.Need-add-set-bit-2 Inv-loop μ-loop
 add-set-bit-2 c = let e = entry-le _ _ _ _ _ (c .before .before .before .before .loop .inv) (c .before .before .before .loop-test .taken) in omega (arith, c .wide .ensures)
 
--- src/lib.rt:79:9
 set-bit-requires : tie.Need-set-bit-requires Inv-loop μ-loop
 set-bit-requires c κs = let e = entry-le _ _ _ _ _ (c .before .before .before .before .loop .inv) (c .before .before .before .loop-test .taken) in omega (arith, c .wide .ensures, c .before .before .before .before .loop .inv .kept)
 
--- src/lib.rt:80:9
 add-i : tie.Need-add-i Inv-loop μ-loop
 add-i c = omega arith
 
--- src/lib.rt:78:5
 loop-less : tie.Need-loop-less Inv-loop μ-loop
 loop-less c = omega arith
 
--- src/lib.rt:78:5
 loop-again : tie.Need-loop-again Inv-loop μ-loop
 loop-again c = let a = c .before .before .before .before .before .before .before in let s = a .before .before .before .before .before .before .before in marked-next _ _ _ _ _ (a .loop .inv) (c .before .before .before .before .before .before .loop-test .taken) _ _ (c .before .before .set-bit .ensures) (c .before .before .before .wide .ensures) (λ i h. omega (arith, a .before .slice-known2 .given i)) (omega (arith, a .before .before .before .blank .kept .0))
 
--- src/lib.rt:68:1
 same-length : tie.Need-same-length Inv-loop μ-loop
 same-length c = omega (arith, c .before .loop .inv .kept)
 
--- src/lib.rt:68:1
 returns : tie.Need-returns Inv-loop μ-loop
 returns c = let s = c .before .before .before .before .before .before .before .before in marked-last _ _ _ _ _ _ (good-parents _ (s .pre .0) (s .pre .1 .1 .0)) (c .before .before .before .before .blank .ensures) (c .before .loop .inv) (c .loop-test .left)
 

@@ -1,0 +1,4 @@
+pub mod Parts
+pub mod Telling
+pub mod Splitting
+pub mod Joining
