@@ -3,3 +3,5 @@ pub mod Leftover
 pub mod Marking
 pub mod Ending
 pub mod Answers
+pub mod Codes
+pub mod Promises

@@ -2,4 +2,5 @@ pub mod Rank
 pub mod ByStrings
 pub mod Walks
 pub mod Layout
+pub mod Stages
 pub mod Promises

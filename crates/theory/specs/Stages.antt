@@ -1,0 +1,80 @@
+-- The stages of the check of an image whose blocks all check: what each looks at (document 01, "Image", and code 7).
+use mathlib.Core.Path.{_≡_}
+use mathlib.Core.List.{List}
+use Prim.Native.Nat.{ℕ, _+_, _-_, _*_, _/_, _%_, _≤_, _<_}
+use lib.ListN.{length, getD, take}
+use Rattle.meaning.specs.Strings.{Bit, O, I, ones}
+use Rattle.meaning.specs.Bytes.{bitAt}
+use Rattle.meaning.specs.Blocks.{blocksIn}
+use Rattle.meaning.specs.Image.{stringBlocks, stringIn}
+use Rattle.theory.specs.Layout.{wordAt, sampleWord}
+
+-- n and m, as the header has them
+abbrev pub nodesOf : List ℕ → ℕ
+nodesOf bytes = wordAt bytes 4
+
+abbrev pub marksOf : List ℕ → ℕ
+marksOf bytes = wordAt bytes 8
+
+-- the blocks that the samples of m ones take
+abbrev pub blocksOfSamples : ℕ → ℕ
+blocksOfSamples m = ((m + 63) / 64 + 125) / 126
+
+-- where the blocks of R0 and of the samples begin, for n nodes and m marks, and how many blocks there are
+abbrev pub zerosFrom : ℕ → ℕ
+zerosFrom n = 1 + stringBlocks n
+
+abbrev pub samplesFrom : ℕ → ℕ
+samplesFrom n = zerosFrom n + stringBlocks (n + 1)
+
+abbrev pub blocksNeeded : ℕ → ℕ → ℕ
+blocksNeeded n m = samplesFrom n + (blocksOfSamples m + blocksOfSamples m)
+
+-- the two strings, as the blocks have them
+abbrev pub readR1 : List ℕ → List Bit
+readR1 bytes = stringIn bytes 1 0 (nodesOf bytes)
+
+abbrev pub readR0 : List ℕ → List Bit
+readR0 bytes = stringIn bytes (zerosFrom (nodesOf bytes)) 0 (nodesOf bytes + 1)
+
+-- the header: version, n, m and the number of blocks, taken together, and the reserved words
+pub record Header (bytes : List ℕ) : Type 0 where
+  pub version : wordAt bytes 0 ≡ 1
+  pub some : 1 ≤ nodesOf bytes
+  pub most : nodesOf bytes ≤ 65535
+  pub marksSome : 1 ≤ marksOf bytes
+  pub marksMost : marksOf bytes ≤ nodesOf bytes
+  pub blocks : wordAt bytes 12 ≡ blocksIn bytes
+  pub needed : blocksIn bytes ≡ blocksNeeded (nodesOf bytes) (marksOf bytes)
+  pub reserved : (w : ℕ) → 4 ≤ w → w < 126 → wordAt bytes (4 * w) ≡ 0
+
+-- a string of m runs: m ones, the last bit among them
+pub record Ended (m : ℕ) (r : List Bit) : Type 0 where
+  pub count : ones r ≡ m
+  pub last : getD r (length r - 1) O ≡ I
+
+-- two strings in step: the first run of ones is the root alone, and before the last bit R1 never has more runs behind it than R0
+pub record InStep (a b : List Bit) : Type 0 where
+  pub first : getD a 0 O ≡ I
+  pub never : (p : ℕ) → p < length a → ones (take p a) ≤ ones (take p b)
+
+-- the blocks of a string r, from block `from` on: the count of earlier ones, and zeros after the last bit
+pub record Kept (bytes : List ℕ) (from : ℕ) (r : List Bit) : Type 0 where
+  pub counts : (j : ℕ) → j < stringBlocks (length r) → wordAt bytes (512 * (from + j)) ≡ ones (take (4000 * j) r)
+  pub unused : (i : ℕ) → length r ≤ i → i < 4000 * stringBlocks (length r)
+      → bitAt bytes (8 * (512 * (from + i / 4000) + 4) + i % 4000) ≡ O
+
+-- the samples of a string with m ones, from block `from` on; zeros after the last
+abbrev pub Sampled : List ℕ → ℕ → ℕ → List Bit → Type 0
+Sampled bytes from m r = (j w : ℕ) → j < blocksOfSamples m → w < 126 → wordAt bytes (512 * (from + j) + 4 * w) ≡ sampleWord r j w
+
+-- all stages pass
+pub record Stages (bytes : List ℕ) : Type 0 where
+  pub header : Header bytes
+  pub ended1 : Ended (marksOf bytes) (readR1 bytes)
+  pub ended0 : Ended (marksOf bytes) (readR0 bytes)
+  pub inStep : InStep (readR1 bytes) (readR0 bytes)
+  pub kept1 : Kept bytes 1 (readR1 bytes)
+  pub kept0 : Kept bytes (zerosFrom (nodesOf bytes)) (readR0 bytes)
+  pub sampled1 : Sampled bytes (samplesFrom (nodesOf bytes)) (marksOf bytes) (readR1 bytes)
+  pub sampled0 : Sampled bytes (samplesFrom (nodesOf bytes) + blocksOfSamples (marksOf bytes)) (marksOf bytes) (readR0 bytes)
