@@ -177,7 +177,7 @@ abbrev zeroRuns : Bit → ℕ → ℕ
 zeroRuns O m = suc m
 zeroRuns I m = m
 
-same-run : (m : ℕ) (x : Bit) (r : List Bit) → Runs m (x ∷ r) → Runs m (O ∷ x ∷ r)
+pub same-run : (m : ℕ) (x : Bit) (r : List Bit) → Runs m (x ∷ r) → Runs m (O ∷ x ∷ r)
 same-run zero x r h = absurd h
 same-run (suc m) x r h = h
 

@@ -18,6 +18,8 @@ pub mod Sealing
 pub mod Payloads
 pub mod Images
 pub mod TreeImages
+pub mod InStep
+pub mod Stages
 pub mod Addresses
 pub mod OwnAnswers
 pub mod Depths

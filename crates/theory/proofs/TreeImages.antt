@@ -32,7 +32,7 @@ unfolding headerWord
 header-at bytes w h g =
     sym (words-at w (take 504 bytes) (omega (arith, length-take-le 504 bytes h))) ∙ wordAt-take 504 bytes (4 * w) (omega arith)
 
-length-stringIn : (bytes : List ℕ) (b i n : ℕ) → length (stringIn bytes b i n) ≡ n
+pub length-stringIn : (bytes : List ℕ) (b i n : ℕ) → length (stringIn bytes b i n) ≡ n
 unfolding stringIn
 length-stringIn bytes b i zero = refl
 length-stringIn bytes b i (suc n) = ap suc (length-stringIn bytes b (suc i) n)
@@ -41,17 +41,17 @@ length-stringIn bytes b i (suc n) = ap suc (length-stringIn bytes b (suc i) n)
 abbrev pub bitPlace : ℕ → ℕ → ℕ
 bitPlace b i = 8 * (512 * (b + i / 4000) + 4) + i % 4000
 
-stringIn-at : (bytes : List ℕ) (b i n k : ℕ) → k < n → getD (stringIn bytes b i n) k O ≡ bitAt bytes (bitPlace b (i + k))
+pub stringIn-at : (bytes : List ℕ) (b i n k : ℕ) → k < n → getD (stringIn bytes b i n) k O ≡ bitAt bytes (bitPlace b (i + k))
 unfolding stringIn
 stringIn-at bytes b i zero k h = absurd (omega arith)
 stringIn-at bytes b i (suc n) zero h = ap (λ q. bitAt bytes (bitPlace b q)) (let e : i ≡ i + 0 = omega arith in e)
 stringIn-at bytes b i (suc n) (suc k) h =
     stringIn-at bytes b (suc i) n k (omega arith) ∙ ap (λ q. bitAt bytes (bitPlace b q)) (let e : suc i + k ≡ i + suc k = omega arith in e)
 
--- bit i of a string whose blocks begin at block o
+-- bit i of a string whose blocks begin at block o, and zeros after the last bit
 module _ (ps : List (List ℕ)) (o : ℕ) (r : List Bit)
     (there : (j : ℕ) → j < stringBlocks (length r) → (o + j < length ps) × (getD ps (o + j) [] ≡ stringPart r j)) where
-  string-bit : (i : ℕ) → i < length r → bitAt (sealed ps 0) (bitPlace o i) ≡ getD r i O
+  string-bit : (i : ℕ) → i < 4000 * stringBlocks (length r) → bitAt (sealed ps 0) (bitPlace o i) ≡ getD r i O
   unfolding bitAt
   string-bit i h =
       let j = i / 4000 in
@@ -81,15 +81,25 @@ module _ (ps : List (List ℕ)) (o : ℕ) (r : List Bit)
       ∙ ap (λ q. bitAt (sealed ps 0) (bitPlace o q)) (let e : 0 + i ≡ i = omega arith in e)
       ∙ string-bit i (omega arith))
 
-pub R1-in : (a b : List Bit) → stringIn (imageOfParts a b) 1 0 (length a) ≡ a
-R1-in a b =
-    ap (λ x. stringIn x 1 0 (length a)) (image-blocks a b)
-    ∙ string-in (blocks a b) 1 a (λ j h. (omega (arith, length-blocks a b), payload-R1 a b j (omega arith)))
+-- both strings are in the image
+module _ (a b : List Bit) where
+  there1 : (j : ℕ) → j < stringBlocks (length a) → (1 + j < length (blocks a b)) × (getD (blocks a b) (1 + j) [] ≡ stringPart a j)
+  there1 j h = (omega (arith, length-blocks a b), payload-R1 a b j (omega arith))
 
-pub R0-in : (a b : List Bit) → stringIn (imageOfParts a b) (1 + stringBlocks (length a)) 0 (length b) ≡ b
-R0-in a b =
-    ap (λ x. stringIn x (startR0 a b) 0 (length b)) (image-blocks a b)
-    ∙ string-in (blocks a b) (startR0 a b) b (λ j h. (omega (arith, length-blocks a b), payload-R0 a b j (omega arith)))
+  there0 : (j : ℕ) → j < stringBlocks (length b) → (startR0 a b + j < length (blocks a b)) × (getD (blocks a b) (startR0 a b + j) [] ≡ stringPart b j)
+  there0 j h = (omega (arith, length-blocks a b), payload-R0 a b j (omega arith))
+
+  pub R1-bit : (i : ℕ) → i < 4000 * stringBlocks (length a) → bitAt (imageOfParts a b) (bitPlace 1 i) ≡ getD a i O
+  R1-bit i h = ap (λ x. bitAt x (bitPlace 1 i)) (image-blocks a b) ∙ string-bit (blocks a b) 1 a there1 i h
+
+  pub R0-bit : (i : ℕ) → i < 4000 * stringBlocks (length b) → bitAt (imageOfParts a b) (bitPlace (startR0 a b) i) ≡ getD b i O
+  R0-bit i h = ap (λ x. bitAt x (bitPlace (startR0 a b) i)) (image-blocks a b) ∙ string-bit (blocks a b) (startR0 a b) b there0 i h
+
+  pub R1-in : stringIn (imageOfParts a b) 1 0 (length a) ≡ a
+  R1-in = ap (λ x. stringIn x 1 0 (length a)) (image-blocks a b) ∙ string-in (blocks a b) 1 a there1
+
+  pub R0-in : stringIn (imageOfParts a b) (1 + stringBlocks (length a)) 0 (length b) ≡ b
+  R0-in = ap (λ x. stringIn x (startR0 a b) 0 (length b)) (image-blocks a b) ∙ string-in (blocks a b) (startR0 a b) b there0
 
 pub header-nodes : (a b : List Bit) → length a ≤ 65535 → length b ≤ 65536 → headerWord (imageOfParts a b) 1 ≡ length a
 header-nodes a b la lb =

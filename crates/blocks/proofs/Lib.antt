@@ -1,0 +1,3 @@
+pub mod Summing
+pub mod Checking
+pub mod Laws

@@ -1,0 +1,70 @@
+-- `blocks::block_sums` meets its contract.
+use mathlib.Core.Path.{_≡_, refl}
+use Prim.Native.Nat.{_-_, _≤_}
+use borrow.Author.Needs.{needs}
+use native.Mathlib.Omega.{arith}
+use lib.ListN.{drop}
+use Rattle.meaning.specs.Blocks.{sums}
+use Rattle.blocks.proofs.Summing.{wordsFrom, sums-next, sums-last}
+use Rattle.blocks.proofs.block_sums.Statement.{statement}
+use Rattle.blocks.proofs.block_sums.Tie as tie
+
+abbrev Inv-loop : tie.InvT-loop
+Inv-loop b at start s₀ t₀ i₀ s t i = (i ≤ 126) × (sums (drop i (wordsFrom b at)) s t ≡ sums (wordsFrom b at) start 0)
+
+abbrev μ-loop : tie.MeasureT-loop
+μ-loop b at start s₀ t₀ i₀ s t i = 126 - i
+
+loop-holds : tie.Need-loop-holds Inv-loop μ-loop
+loop-holds c = (omega arith, refl)
+
+mul-word : tie.Need-mul-word Inv-loop μ-loop
+mul-word c = omega arith
+
+add-word : tie.Need-add-word Inv-loop μ-loop
+add-word c = omega arith
+
+word-requires : tie.Need-word-requires Inv-loop μ-loop
+word-requires c κs = omega arith
+
+wrapping-add-u32-requires : tie.Need-wrapping-add-u32-requires Inv-loop μ-loop
+wrapping-add-u32-requires c κs = search needs
+
+wrapping-add-u32-requires-2 : tie.Need-wrapping-add-u32-requires-2 Inv-loop μ-loop
+wrapping-add-u32-requires-2 c κs = search needs
+
+add-i : tie.Need-add-i Inv-loop μ-loop
+add-i c = omega arith
+
+loop-less : tie.Need-loop-less Inv-loop μ-loop
+loop-less c = omega arith
+
+loop-again : tie.Need-loop-again Inv-loop μ-loop
+loop-again c =
+    let a = c .before .before .before .before .before .before .args in (
+      omega arith,
+      sums-next (a .b .now) (a .at) (omega arith) _ _ _ _ _ _ _ (omega arith) (c .before .before .before .before .loop .inv .1)
+          (c .before .before .word .ensures) (c .before .wrapping-add-u32 .ensures) (c .wrapping-add-u322 .ensures),
+    )
+
+returns : tie.Need-returns Inv-loop μ-loop
+returns c =
+    let a = c .before .before .before .args in
+    sums-last (a .b .now) (a .at) (omega arith) (c .before .loop .i) _ _ _ (omega arith) (c .before .loop .inv .1)
+
+pub block-sums-spec : {M : Type 1} → statement M
+block-sums-spec =
+    tie.close
+    (tie.spec
+    Inv-loop
+    μ-loop
+    loop-holds
+    mul-word
+    add-word
+    word-requires
+    wrapping-add-u32-requires
+    wrapping-add-u32-requires-2
+    add-i
+    loop-less
+    loop-again
+    returns)

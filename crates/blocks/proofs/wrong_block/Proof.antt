@@ -1,0 +1,56 @@
+-- `blocks::wrong_block` meets its contract.
+use mathlib.Core.Path.{_≡_, sym, _∙_}
+use Prim.Native.Nat.{_-_, _≤_}
+use borrow.Author.Tests.{not-true, not-false}
+use native.Mathlib.Omega.{arith}
+use Rattle.meaning.specs.Blocks.{wrongBlock}
+use Rattle.blocks.proofs.Checking.{wrongAfter, wrong-all, wrong-here, wrong-later, wrong-none}
+use Rattle.blocks.proofs.wrong_block.Statement.{statement}
+use Rattle.blocks.proofs.wrong_block.Tie as tie
+
+abbrev Inv-loop : tie.InvT-loop
+Inv-loop b blocks i₀ i = (i ≤ blocks) × (wrongAfter b blocks i ≡ wrongBlock b)
+
+abbrev μ-loop : tie.MeasureT-loop
+μ-loop b blocks i₀ i = blocks - i
+
+loop-holds : tie.Need-loop-holds Inv-loop μ-loop
+loop-holds c = (omega arith, wrong-all (c .before .args .b .now) (c .before .args .blocks) (c .before .pre .0))
+
+sums-right-requires : tie.Need-sums-right-requires Inv-loop μ-loop
+sums-right-requires c κs = (omega arith, omega arith)
+
+returns : tie.Need-returns Inv-loop μ-loop
+returns c =
+    let a = c .before .before .before .before .before .args in
+    wrong-here (a .b .now) (a .blocks) _ (c .before .before .loop-test .taken) (sym (c .before .sums-right .ensures) ∙ not-true _ (c .if1 .taken)) ∙ c .before .before .before .loop .inv .1
+
+add-i : tie.Need-add-i Inv-loop μ-loop
+add-i c = omega arith
+
+loop-less : tie.Need-loop-less Inv-loop μ-loop
+loop-less c = omega arith
+
+loop-again : tie.Need-loop-again Inv-loop μ-loop
+loop-again c =
+    let a = c .before .before .before .before .before .args in
+    (omega arith, wrong-later (a .b .now) (a .blocks) _ (c .before .before .loop-test .taken) (sym (c .before .sums-right .ensures) ∙ not-false _ (c .if1 .left)) ∙ c .before .before .before .loop .inv .1)
+
+returns-2 : tie.Need-returns-2 Inv-loop μ-loop
+returns-2 c =
+    let a = c .before .before .before .args in
+    wrong-none (a .b .now) (a .blocks) (c .before .loop .i) (omega arith) ∙ c .before .loop .inv .1
+
+pub wrong-block-spec : {M : Type 1} → statement M
+wrong-block-spec =
+    tie.close
+    (tie.spec
+    Inv-loop
+    μ-loop
+    loop-holds
+    sums-right-requires
+    returns
+    add-i
+    loop-less
+    loop-again
+    returns-2)

@@ -1,0 +1,109 @@
+// Blocks of an image: words, the two sums, the lowest block whose sums are wrong.
+ghost use mathlib.Core.Path.{_≡_};
+ghost use mathlib.Core.List.{_++_};
+ghost use Prim.Native.Nat.{_+_, _*_, _<_, _≤_};
+ghost use lib.ListN.{take, drop};
+ghost use Rattle.meaning.specs.Blocks.{sums, words, sealed, wrongBlock};
+ghost use Rattle.theory.specs.Layout.{wordAt};
+ghost use Rattle.blocks.specs.Sealed.{sumsOf, rightAt, withSums, withWord, payloadsIn};
+use std::num::wrapping_add_u32;
+
+// The two sums of a block.
+pub struct Sums {
+    pub s: u32,
+    pub t: u32,
+}
+
+fn wide(x: u8) -> u32
+    ensures { λ r. ⌜ (r ≡ x) × (r < 256) ⌝ }
+{
+    x as u32
+}
+
+// The word at byte `at`, little-endian: four bytes, which become one load.
+pub fn word(b: &[u8], at: usize) -> u32
+    requires { do ⌜ at + 4 ≤ (← ⟦b.len()⟧) ⌝ }
+    ensures { λ r. ⌜ r ≡ wordAt (now (b .entry)) at ⌝ }
+{
+    wide(b[at]) + wide(b[at + 1]) * 256 + wide(b[at + 2]) * 65536 + wide(b[at + 3]) * 16777216
+}
+
+// The sums of the 126 words from byte `at` on, s from `start` and t from 0: s takes in each word, and then t takes in s.
+pub fn block_sums(b: &[u8], at: usize, start: u32) -> Sums
+    requires { do ⌜ at + 504 ≤ (← ⟦b.len()⟧) ⌝ }
+    ensures { λ r. ⌜ sumsOf r ≡ sums (words (take 504 (drop at (now (b .entry))))) start 0 ⌝ }
+{
+    let mut s = start;
+    let mut t: u32 = 0;
+    let mut i: usize = 0;
+    while i < 126 {
+        s = wrapping_add_u32(s, word(b, at + 4 * i));
+        t = wrapping_add_u32(t, s);
+        i += 1;
+    }
+    Sums { s: s, t: t }
+}
+
+// Are the sums that block `i` holds those of its payload?
+fn sums_right(b: &[u8], i: usize) -> bool
+    requires { do ⌜ 512 * i + 512 ≤ (← ⟦b.len()⟧) ⌝ }
+    requires { ⌜ i ≤ 52 ⌝ }
+    ensures { λ r. ⌜ r ≡ rightAt (now (b .entry)) i ⌝ }
+{
+    let right = block_sums(b, 512 * i, i as u32);
+    if word(b, 512 * i + 504) != right.s {
+        return false;
+    }
+    word(b, 512 * i + 508) == right.t
+}
+
+// The lowest block whose s or t is wrong, or `blocks` if there is none.
+pub fn wrong_block(b: &[u8], blocks: usize) -> usize
+    requires { do ⌜ (← ⟦b.len()⟧) ≡ 512 * blocks ⌝ }
+    requires { ⌜ blocks ≤ 53 ⌝ }
+    ensures { λ r. ⌜ r ≡ wrongBlock (now (b .entry)) ⌝ }
+{
+    let mut i: usize = 0;
+    while i < blocks {
+        if !sums_right(b, i) {
+            return i;
+        }
+        i += 1;
+    }
+    blocks
+}
+
+// Writes `x` at byte `at`, little-endian: four bytes, which become one store.
+pub fn put_word(b: &mut [u8], at: usize, x: u32)
+    requires { do ⌜ at + 4 ≤ (← ⟦b.len()⟧) ⌝ }
+    ensures { λ _. ⌜ now (b .exit) ≡ withWord (now (b .entry)) at x ⌝ }
+{
+    b[at] = (x % 256) as u8;
+    b[at + 1] = (x / 256 % 256) as u8;
+    b[at + 2] = (x / 65536 % 256) as u8;
+    b[at + 3] = (x / 16777216 % 256) as u8;
+}
+
+// Writes the sums of block `i` behind its payload.
+pub fn seal_block(b: &mut [u8], i: usize)
+    requires { do ⌜ 512 * i + 512 ≤ (← ⟦b.len()⟧) ⌝ }
+    requires { ⌜ i ≤ 52 ⌝ }
+    ensures { λ _. ⌜ now (b .exit) ≡ withSums (now (b .entry)) i ⌝ }
+{
+    let made = block_sums(b, 512 * i, i as u32);
+    put_word(b, 512 * i + 504, made.s);
+    put_word(b, 512 * i + 508, made.t);
+}
+
+// Writes the sums of the first `blocks` blocks.
+pub fn seal_blocks(b: &mut [u8], blocks: usize)
+    requires { do ⌜ 512 * blocks ≤ (← ⟦b.len()⟧) ⌝ }
+    requires { ⌜ blocks ≤ 53 ⌝ }
+    ensures { λ _. ⌜ now (b .exit) ≡ sealed (payloadsIn (now (b .entry)) blocks) 0 ++ drop (512 * blocks) (now (b .entry)) ⌝ }
+{
+    let mut i: usize = 0;
+    while i < blocks {
+        seal_block(b, i);
+        i += 1;
+    }
+}

@@ -1,0 +1,261 @@
+-- The stages of the check of an image: every image passes them all, and bytes whose sums check and that pass them all are an image.
+use mathlib.Core.Path.{_≡_, sym, ap, ap₂, _∙_, subst, subst₃}
+use mathlib.Core.Bool.{true}
+use mathlib.Core.List.{List, [], _∷_}
+use Prim.Native.Nat.{ℕ, zero, suc, _+_, _-_, _*_, _/_, _%_, _^_, _≤_, _<_}
+use native.Mathlib.Decide.{decLt}
+use native.Mathlib.Omega.{arith}
+use lib.ListN.{length, getD, take, drop, length-take, length-drop, List·getD-eq-default}
+use lib.Seq.{getD-take, getD-drop, drop-drop}
+use Rattle.meaning.specs.Trees.{Tree, nodes}
+use Rattle.meaning.specs.Strings.{Bit, O, ones, lbs, R1, R0, parentsOf, stringOf, woven}
+use Rattle.meaning.specs.Bytes.{bit, bitAt, bytesOf}
+use Rattle.meaning.specs.Blocks.{blocksIn, wrongBlock}
+use Rattle.meaning.specs.Image.{stringBlocks, imageOfParts, image, stringIn, parentsIn, isImage}
+use Rattle.theory.specs.Layout.{Runs, AreBytes, wordAt, bitWord, stringWord, startR0, startS1, startS0, total, Laid}
+use Rattle.theory.specs.Stages.{nodesOf, marksOf, blocksOfSamples, zerosFrom, samplesFrom, blocksNeeded, readR1, readR0, Header, Ended, InStep, Kept, Sampled, Stages}
+use Rattle.theory.proofs.Digits.{same-bits, bytesOf-lt, bytesOf-bit, bytesOf-word, length-bytesOf, take-bytes, drop-bytes, wordAt-take, wordAt-drop}
+use Rattle.theory.proofs.Forms.{length-parents, length-R1, length-R0, string-parents, tree-runs, tree-rule, runs-ones, marks-count}
+use Rattle.theory.proofs.Payloads.{ones-le, length-samples}
+use Rattle.theory.proofs.Images.{laid}
+use Rattle.theory.proofs.InStep.{runs-ended, one-missing, in-step}
+use Rattle.theory.proofs.TreeImages.{header-at, length-stringIn, stringIn-at, bitPlace, R1-bit, R0-bit, R1-in, R0-in, image-parts, parents-in, is-image, image-laid}
+
+-- ---- every image passes
+
+module _ (a b : List Bit) (longer : length b ≡ suc (length a)) (most : length a ≤ 65535) where
+  made : Laid (imageOfParts a b) a b
+  made = laid a b most (omega arith)
+
+  made-nodes : nodesOf (imageOfParts a b) ≡ length a
+  made-nodes = made .head 1 (omega arith)
+
+  made-R1 : readR1 (imageOfParts a b) ≡ a
+  made-R1 = ap (stringIn (imageOfParts a b) 1 0) made-nodes ∙ R1-in a b
+
+  made-R0 : readR0 (imageOfParts a b) ≡ b
+  made-R0 =
+      ap (λ n. stringIn (imageOfParts a b) (zerosFrom n) 0 (n + 1)) made-nodes
+      ∙ ap (stringIn (imageOfParts a b) (zerosFrom (length a)) 0) (let e : length a + 1 ≡ length b = omega arith in e) ∙ R0-in a b
+
+  kept-R1 : Kept (imageOfParts a b) 1 a
+  unfolding stringWord
+  kept-R1 = record {
+    counts = λ j h. ap (wordAt (imageOfParts a b)) (let e : 512 * (1 + j) ≡ 512 * (1 + j) + 4 * 0 = omega arith in e) ∙ made .inR1 j 0 (omega arith) (omega arith);
+    unused = λ i h g. R1-bit a b i g ∙ List·getD-eq-default a O h;
+  }
+
+  kept-R0 : Kept (imageOfParts a b) (zerosFrom (length a)) b
+  unfolding stringWord
+  kept-R0 = record {
+    counts = λ j h. ap (wordAt (imageOfParts a b)) (let e : 512 * (zerosFrom (length a) + j) ≡ 512 * (startR0 a b + j) + 4 * 0 = omega arith in e)
+        ∙ made .inR0 j 0 (omega arith) (omega arith);
+    unused = λ i h g. R0-bit a b i g ∙ List·getD-eq-default b O h;
+  }
+
+  module _ (m : ℕ) (ra : Runs m a) (rb : Runs m b) (some : 1 ≤ length a) where
+    made-marks : marksOf (imageOfParts a b) ≡ m
+    made-marks = made .head 2 (omega arith) ∙ runs-ones m a ra
+
+    made-header : Header (imageOfParts a b)
+    made-header =
+        let n = made-nodes in
+        let k = made-marks in
+        let t : total a b ≡ blocksNeeded (length a) m = omega (arith, length-samples a, length-samples b, runs-ones m a ra, runs-ones m b rb) in
+        let c : blocksIn (imageOfParts a b) ≡ total a b = omega (arith, made .size) in
+        record {
+          version = made .head 0 (omega arith);
+          some = omega arith;
+          most = omega arith;
+          marksSome = omega (arith, one-missing a m 0 ra some);
+          marksMost = omega (arith, ones-le a, runs-ones m a ra);
+          blocks = made .head 3 (omega arith) ∙ sym c;
+          needed = c ∙ t ∙ ap₂ blocksNeeded (sym n) (sym k);
+          reserved = λ w h g. made .head w g ∙ List·getD-eq-default (1 ∷ length a ∷ ones a ∷ total a b ∷ []) 0 h;
+        }
+
+    sampled-R1 : Sampled (imageOfParts a b) (samplesFrom (length a)) m a
+    sampled-R1 j w h g =
+        ap (λ n. wordAt (imageOfParts a b) (512 * (n + j) + 4 * w)) (let e : samplesFrom (length a) ≡ startS1 a b = omega arith in e)
+        ∙ made .inS1 j w (omega (arith, length-samples a, runs-ones m a ra)) g
+
+    sampled-R0 : Sampled (imageOfParts a b) (samplesFrom (length a) + blocksOfSamples m) m b
+    sampled-R0 j w h g =
+        ap (λ n. wordAt (imageOfParts a b) (512 * (n + j) + 4 * w))
+        (let e : samplesFrom (length a) + blocksOfSamples m ≡ startS0 a b = omega (arith, length-samples a, runs-ones m a ra) in e)
+        ∙ made .inS0 j w (omega (arith, length-samples b, runs-ones m b rb)) g
+
+    parts-stages : InStep a b → Stages (imageOfParts a b)
+    parts-stages step =
+        let x = imageOfParts a b in
+        let n = sym made-nodes in
+        let k = sym made-marks in
+        let p = sym made-R1 in
+        let q = sym made-R0 in
+        record {
+          header = made-header;
+          ended1 = subst₃ (λ n k r. Ended k r) n k p (runs-ended m a some .0 ra);
+          ended0 = subst₃ (λ n k r. Ended k r) n k q (runs-ended m b (omega arith) .0 rb);
+          inStep = subst₃ (λ n p q. InStep p q) n p q step;
+          kept1 = subst (Kept x 1) p kept-R1;
+          kept0 = subst₃ (λ n k r. Kept x (zerosFrom n) r) n k q kept-R0;
+          sampled1 = subst₃ (λ n k r. Sampled x (samplesFrom n) k r) n k p sampled-R1;
+          sampled0 = subst₃ (λ n k r. Sampled x (samplesFrom n + blocksOfSamples k) k r) n k q sampled-R0;
+        }
+
+module _ (t : Tree) (small : nodes t ≤ 65535) where
+  longer-R0 : length (R0 (lbs t)) ≡ suc (length (R1 (lbs t)))
+  longer-R0 = length-R0 t ∙ ap suc (sym (length-R1 t))
+
+  short-R1 : length (R1 (lbs t)) ≤ 65535
+  short-R1 = omega (arith, length-R1 t)
+
+  tree-stages : Stages (image t)
+  tree-stages =
+      let a = R1 (lbs t) in
+      let b = R0 (lbs t) in
+      let q = tree-runs t in
+      subst Stages (sym (image-parts t))
+      (parts-stages a b longer-R0 short-R1 (q .0) (q .1) (q .2) (omega (arith, marks-count t, ones-le a)) (in-step (q .0) a b (q .1) (q .2) longer-R0 .0 (tree-rule t)))
+
+  tree-R1 : readR1 (image t) ≡ R1 (lbs t)
+  tree-R1 = ap readR1 (image-parts t) ∙ made-R1 (R1 (lbs t)) (R0 (lbs t)) longer-R0 short-R1
+
+  tree-R0 : readR0 (image t) ≡ R0 (lbs t)
+  tree-R0 = ap readR0 (image-parts t) ∙ made-R0 (R1 (lbs t)) (R0 (lbs t)) longer-R0 short-R1
+
+  tree-nodes : nodesOf (image t) ≡ nodes t
+  tree-nodes = ap nodesOf (image-parts t) ∙ made-nodes (R1 (lbs t)) (R0 (lbs t)) longer-R0 short-R1 ∙ length-R1 t
+
+pub image-stages : (bytes : List ℕ) → isImage bytes ≡ true → Stages bytes
+image-stages bytes e = let r = is-image bytes .0 e in subst Stages (r .2) (tree-stages (r .0) (r .1))
+
+-- ---- bytes that pass are an image
+
+slice-bit : (bytes : List ℕ) (o p : ℕ) → p < 4000 → bitAt (take 500 (drop o bytes)) p ≡ bitAt bytes (8 * o + p)
+unfolding bitAt
+slice-bit bytes o p h =
+    ap (λ x. bit (x / 2 ^ (7 - p % 8) % 2)) (getD-take 500 (drop o bytes) (p / 8) 0 (omega arith) ∙ getD-drop o bytes (p / 8) 0)
+    ∙ ap₂ (λ q e. bit (getD bytes q 0 / 2 ^ (7 - e) % 2))
+    (let e : o + p / 8 ≡ (8 * o + p) / 8 = omega arith in e) (let e : p % 8 ≡ (8 * o + p) % 8 = omega arith in e)
+
+-- the words of n bits that stand from block `from` on, with zeros after them
+module _ (bytes : List ℕ) (are : AreBytes bytes) (from n : ℕ) (fits : 512 * (from + stringBlocks n) ≤ length bytes) (k : Kept bytes from (stringIn bytes from 0 n)) where
+  bit-is : (i : ℕ) → i < 4000 * stringBlocks n → bitAt bytes (bitPlace from i) ≡ getD (stringIn bytes from 0 n) i O
+  bit-is i h =
+      let l = length-stringIn bytes from 0 n in
+      elim (decLt i n) [
+        | yes g ↦ ap (λ q. bitAt bytes (bitPlace from q)) (let e : i ≡ 0 + i = omega arith in e) ∙ sym (stringIn-at bytes from 0 n i g)
+        | no g ↦ k .unused i (omega arith) (omega arith) ∙ sym (List·getD-eq-default (stringIn bytes from 0 n) O (omega arith))
+      ]
+
+  part-is : (j : ℕ) → j < stringBlocks n → take 500 (drop (512 * (from + j) + 4) bytes) ≡ bytesOf 500 (drop (4000 * j) (stringIn bytes from 0 n))
+  part-is j h =
+      let o = 512 * (from + j) + 4 in
+      let y = drop (4000 * j) (stringIn bytes from 0 n) in
+      let l : length (take 500 (drop o bytes)) ≡ 500 = omega (arith, length-take 500 (drop o bytes), length-drop o bytes) in
+      same-bits (take 500 (drop o bytes)) (bytesOf 500 y) (take-bytes 500 (drop o bytes) (drop-bytes o bytes are)) (bytesOf-lt 500 y) (l ∙ sym (length-bytesOf 500 y))
+      (λ p g. slice-bit bytes o p (omega arith)
+      ∙ ap (bitAt bytes) (let e : 8 * o + p ≡ bitPlace from (4000 * j + p) = omega arith in e)
+      ∙ bit-is (4000 * j + p) (omega arith)
+      ∙ sym (getD-drop (4000 * j) (stringIn bytes from 0 n) p O) ∙ sym (bytesOf-bit 500 y p (omega arith)))
+
+  word-is : (j w : ℕ) → j < stringBlocks n → w < 126 → wordAt bytes (512 * (from + j) + 4 * w) ≡ stringWord (stringIn bytes from 0 n) j w
+  unfolding stringWord
+  word-is j zero h g =
+      ap (wordAt bytes) (let e : 512 * (from + j) + 4 * 0 ≡ 512 * (from + j) = omega arith in e)
+      ∙ k .counts j (omega (arith, length-stringIn bytes from 0 n))
+  word-is j (suc w) h g =
+      let o = 512 * (from + j) + 4 in
+      let r = stringIn bytes from 0 n in
+      ap (wordAt bytes) (let e : 512 * (from + j) + 4 * suc w ≡ o + 4 * w = omega arith in e)
+      ∙ sym (wordAt-drop o bytes (4 * w)) ∙ sym (wordAt-take 500 (drop o bytes) (4 * w) (omega arith))
+      ∙ ap (λ x. wordAt x (4 * w)) (part-is j h)
+      ∙ bytesOf-word 500 (drop (4000 * j) r) w (omega arith) ∙ ap bitWord (drop-drop (32 * w) (4000 * j) r)
+
+module _ (bytes : List ℕ) (are : AreBytes bytes) (whole : length bytes ≡ 512 * blocksIn bytes) (sums : wrongBlock bytes ≡ blocksIn bytes) (s : Stages bytes) where
+  long1 : length (readR1 bytes) ≡ nodesOf bytes
+  long1 = length-stringIn bytes 1 0 (nodesOf bytes)
+
+  long0 : length (readR0 bytes) ≡ nodesOf bytes + 1
+  long0 = length-stringIn bytes (zerosFrom (nodesOf bytes)) 0 (nodesOf bytes + 1)
+
+  total-is : total (readR1 bytes) (readR0 bytes) ≡ blocksIn bytes
+  total-is =
+      omega (arith, long1, long0, length-samples (readR1 bytes), length-samples (readR0 bytes), s .ended1 .count, s .ended0 .count, s .header .needed)
+
+  head-is : (w : ℕ) → w < 126 → wordAt bytes (4 * w) ≡ getD (1 ∷ length (readR1 bytes) ∷ ones (readR1 bytes) ∷ total (readR1 bytes) (readR0 bytes) ∷ []) w 0
+  head-is zero h = s .header .version
+  head-is (suc zero) h = sym long1
+  head-is (suc (suc zero)) h = sym (s .ended1 .count)
+  head-is (suc (suc (suc zero))) h = s .header .blocks ∙ sym total-is
+  head-is (suc (suc (suc (suc w)))) h = s .header .reserved (suc (suc (suc (suc w)))) (omega arith) h
+
+  read-laid : Laid bytes (readR1 bytes) (readR0 bytes)
+  read-laid =
+      let a = readR1 bytes in
+      let b = readR0 bytes in
+      let n = nodesOf bytes in
+      let la = long1 in
+      let lb = long0 in
+      let t = total-is in
+      let sa = length-samples a in
+      let sb = length-samples b in
+      let ca = s .ended1 .count in
+      let cb = s .ended0 .count in
+      record {
+        size = omega arith;
+        sums = sums ∙ sym t;
+        head = head-is;
+        inR1 = λ j w h g. word-is bytes are 1 n (omega arith) (s .kept1) j w (omega arith) g;
+        inR0 = λ j w h g. ap (λ o. wordAt bytes (512 * (o + j) + 4 * w)) (let e : startR0 a b ≡ zerosFrom n = omega arith in e)
+            ∙ word-is bytes are (zerosFrom n) (n + 1) (omega arith) (s .kept0) j w (omega arith) g;
+        inS1 = λ j w h g. ap (λ o. wordAt bytes (512 * (o + j) + 4 * w)) (let e : startS1 a b ≡ samplesFrom n = omega arith in e) ∙ s .sampled1 j w (omega arith) g;
+        inS0 = λ j w h g. ap (λ o. wordAt bytes (512 * (o + j) + 4 * w)) (let e : startS0 a b ≡ samplesFrom n + blocksOfSamples (marksOf bytes) = omega arith in e)
+            ∙ s .sampled0 j w (omega arith) g;
+      }
+
+pub stages-image : (bytes : List ℕ) → AreBytes bytes → length bytes ≡ 512 * blocksIn bytes → wrongBlock bytes ≡ blocksIn bytes → Stages bytes → isImage bytes ≡ true
+stages-image bytes are whole sums s =
+    let a = readR1 bytes in
+    let b = readR0 bytes in
+    let m = marksOf bytes in
+    let la = long1 bytes are whole sums s in
+    let lb = long0 bytes are whole sums s in
+    let some = s .header .some in
+    let most = s .header .most in
+    let ra = runs-ended m a (omega arith) .1 (s .ended1) in
+    let rb = runs-ended m b (omega arith) .1 (s .ended0) in
+    let l : length b ≡ suc (length a) = omega arith in
+    is-image bytes .1 (image-laid bytes are .1 (m, a, b, ra, rb, l, omega arith, in-step m a b ra rb l .1 (s .inStep), read-laid bytes are whole sums s))
+
+-- ---- what the strings of an image give
+
+pub parents-read : (bytes : List ℕ) → 504 ≤ length bytes → parentsOf (woven (readR1 bytes) (readR0 bytes)) ≡ parentsIn bytes
+unfolding parentsIn
+parents-read bytes h =
+    ap (λ n. parentsOf (woven (stringIn bytes 1 0 n) (stringIn bytes (zerosFrom n) 0 (n + 1)))) (sym (header-at bytes 1 h (omega arith)))
+
+pub record PartsRead (bytes : List ℕ) : Type 0 where
+  pub given : parentsOf (woven (readR1 bytes) (readR0 bytes)) ≡ parentsIn bytes
+  pub count : length (parentsIn bytes) ≡ nodesOf bytes
+  pub marks : ones (R1 (stringOf (parentsIn bytes))) ≡ marksOf bytes
+  pub first : R1 (stringOf (parentsIn bytes)) ≡ readR1 bytes
+  pub second : R0 (stringOf (parentsIn bytes)) ≡ readR0 bytes
+
+pub parts-read : (bytes : List ℕ) → isImage bytes ≡ true → PartsRead bytes
+parts-read bytes e = let r = is-image bytes .0 e in subst PartsRead (r .2) (tree-read (r .0) (r .1))
+  where
+    tree-read : (t : Tree) → nodes t ≤ 65535 → PartsRead (image t)
+    tree-read t h =
+        let s = tree-stages t h in
+        let ps = parents-in t h in
+        let string : stringOf (parentsIn (image t)) ≡ lbs t = ap stringOf ps ∙ string-parents t in
+        let one : R1 (stringOf (parentsIn (image t))) ≡ readR1 (image t) = ap R1 string ∙ sym (tree-R1 t h) in
+        record {
+          given = parents-read (image t) (omega (arith, s .header .needed));
+          count = ap length ps ∙ length-parents t ∙ sym (tree-nodes t h);
+          marks = ap ones one ∙ s .ended1 .count;
+          first = one;
+          second = ap R0 string ∙ sym (tree-R0 t h);
+        }
