@@ -80,7 +80,7 @@ four-ones v = ones-le (fourBits v)
 pub byte-ones-halves : (x : ℕ) → x < 256 → ones (byteBits x) ≡ ones (fourBits (x / 16)) + ones (fourBits (x % 16))
 byte-ones-halves x h = ap (λ l. ones l) (halves x h) ∙ ones-append (fourBits (x / 16)) (fourBits (x % 16))
 
-position-front : (a b : List Bit) (k : ℕ) → k < ones a → position (a ++ b) (suc k) ≡ position a (suc k)
+pub position-front : (a b : List Bit) (k : ℕ) → k < ones a → position (a ++ b) (suc k) ≡ position a (suc k)
 position-front [] b k h = absurd (omega arith)
 position-front (O ∷ a) b k h = ap suc (position-front a b k h)
 position-front (I ∷ a) b zero h = ap suc (position-zero (a ++ b) ∙ sym (position-zero a))

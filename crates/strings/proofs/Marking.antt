@@ -25,7 +25,7 @@ later-rising : (n i x : ℕ) (ps : List ℕ) → Later i x ps → i + length ps 
 later-rising n i x [] h l = tt
 later-rising n i x (p ∷ ps) h l = (h .0, omega (arith, h .1), later-rising n (suc i) p ps (h .2) (omega arith))
 
-parents-rising : (ps : List ℕ) → IsParents ps → Rising (length ps) 0 ps
+pub parents-rising : (ps : List ℕ) → IsParents ps → Rising (length ps) 0 ps
 parents-rising [] h = tt
 parents-rising (p ∷ qs) h =
     let e : p ≡ 0 = h .rule 1 (omega arith) (omega arith) in

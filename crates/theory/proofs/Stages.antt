@@ -160,7 +160,7 @@ module _ (bytes : List ℕ) (are : AreBytes bytes) (from n : ℕ) (fits : 512 * 
       ∙ bit-is (4000 * j + p) (omega arith)
       ∙ sym (getD-drop (4000 * j) (stringIn bytes from 0 n) p O) ∙ sym (bytesOf-bit 500 y p (omega arith)))
 
-  word-is : (j w : ℕ) → j < stringBlocks n → w < 126 → wordAt bytes (512 * (from + j) + 4 * w) ≡ stringWord (stringIn bytes from 0 n) j w
+  pub word-is : (j w : ℕ) → j < stringBlocks n → w < 126 → wordAt bytes (512 * (from + j) + 4 * w) ≡ stringWord (stringIn bytes from 0 n) j w
   unfolding stringWord
   word-is j zero h g =
       ap (wordAt bytes) (let e : 512 * (from + j) + 4 * 0 ≡ 512 * (from + j) = omega arith in e)

@@ -1,0 +1,3 @@
+pub mod Threading
+pub mod Finding
+pub mod Calling

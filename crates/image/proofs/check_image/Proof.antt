@@ -1,0 +1,20 @@
+-- `image::check_image` meets its contract.
+use mathlib.Core.Path.{ap, _∙_}
+use Rattle.meaning.specs.Answers.{cameTo}
+use Rattle.image.specs.Checked.{answered}
+use Rattle.image.proofs.Calling.{image-answered}
+use borrow.Author.Needs.{needs}
+use Rattle.image.proofs.check_image.Statement.{statement}
+use Rattle.image.proofs.check_image.Tie as tie
+
+check-requires : tie.Need-check-requires
+check-requires c κs = search needs
+
+refusal-of-requires : tie.Need-refusal-of-requires
+refusal-of-requires c κs = search needs
+
+returns : tie.Need-returns
+returns c = ap (λ a. cameTo a tt) (c .refusal-of .ensures ∙ ap answered (c .before .check .ensures)) ∙ image-answered (c .before .before .before .args .b .now)
+
+pub check-image-spec : {M : Type 1} → statement M
+check-image-spec = tie.close (tie.spec check-requires refusal-of-requires returns)

@@ -1,0 +1,66 @@
+-- `image::image_in` meets its contract.
+use mathlib.Core.Path.{_≡_}
+use Prim.Native.Nat.{_*_}
+use native.Mathlib.Omega.{arith}
+use lib.ListN.{length}
+use Rattle.image.proofs.Finding.{image-read}
+use borrow.Author.Needs.{needs}
+use Rattle.image.proofs.image_in.Statement.{statement}
+use Rattle.image.proofs.image_in.Tie as tie
+
+word-requires : tie.Need-word-requires
+word-requires c κs = search needs
+
+word-requires-2 : tie.Need-word-requires-2
+word-requires-2 c κs = search needs
+
+cast-zeros-from : tie.Need-cast-zeros-from
+cast-zeros-from c = search needs
+
+zeros-from-requires : tie.Need-zeros-from-requires
+zeros-from-requires c κs = search needs
+
+cast-samples-from : tie.Need-cast-samples-from
+cast-samples-from c = search needs
+
+samples-from-requires : tie.Need-samples-from-requires
+samples-from-requires c κs = search needs
+
+sample-blocks-requires : tie.Need-sample-blocks-requires
+sample-blocks-requires c κs = search needs
+
+add-samples0 : tie.Need-add-samples0
+add-samples0 c = search needs
+
+cast-t9 : tie.Need-cast-t9
+cast-t9 c = search needs
+
+cast-t10 : tie.Need-cast-t10
+cast-t10 c = search needs
+
+cast-t11 : tie.Need-cast-t11
+cast-t11 c = search needs
+
+cast-t12 : tie.Need-cast-t12
+cast-t12 c = search needs
+
+returns : tie.Need-returns
+returns c = let whole : length (c .before .before .before .before .before .before .args .b .now) ≡ 512 * (c .before .before .before .before .before .before .args .blocks) = c .before .before .before .before .before .before .pre .0 in image-read (c .before .before .before .before .before .before .args .b .now) _ _ _ _ _ _ (c .before .before .before .before .word .ensures) (c .before .before .before .word2 .ensures) (omega arith) (c .before .before .zeros-from .ensures) (c .before .samples-from .ensures) (c .sample-blocks .ensures)
+
+pub image-in-spec : {M : Type 1} → statement M
+image-in-spec =
+    tie.close
+    (tie.spec
+    word-requires
+    word-requires-2
+    cast-zeros-from
+    zeros-from-requires
+    cast-samples-from
+    samples-from-requires
+    sample-blocks-requires
+    add-samples0
+    cast-t9
+    cast-t10
+    cast-t11
+    cast-t12
+    returns)

@@ -1,0 +1,6 @@
+pub mod Saying
+pub mod Zeros
+pub mod Pieces
+pub mod Blanks
+pub mod Stepping
+pub mod Sampling

@@ -1,0 +1,13 @@
+-- Two strings in step, in parts.
+use Prim.Native.Nat.{ℕ, _≤_, _<_}
+use mathlib.Core.List.{List}
+use Rattle.meaning.specs.Strings.{ones}
+use Rattle.meaning.specs.Image.{stringIn}
+
+-- how many of the first p bits are one, of the string whose blocks begin at block f
+abbrev pub onesTo : List ℕ → ℕ → ℕ → ℕ
+onesTo bytes f p = ones (stringIn bytes f 0 p)
+
+-- R1 has no more ones among its first p bits than R0, at each p from a to before b
+abbrev pub StepWithin : List ℕ → ℕ → ℕ → ℕ → Type 0
+StepWithin bytes zeros a b = (p : ℕ) → a ≤ p → p < b → onesTo bytes 1 p ≤ onesTo bytes zeros p
