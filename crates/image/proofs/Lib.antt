@@ -1,3 +1,4 @@
 pub mod Threading
 pub mod Finding
 pub mod Calling
+pub mod Promises

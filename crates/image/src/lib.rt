@@ -135,7 +135,11 @@ fn write_parents(b: &[u8], zeros: usize, n: usize, out: &mut [u32])
 pub fn check_image(b: &[u8]) -> Answer
     ensures { λ r. ⌜ cameTo r tt ≡ checkImage (now (b .entry)) ⌝ }
 {
-    refusal_of(check(b))
+    let found = check(b);
+    let Checked::Sound(image) = found else {
+        return refusal_of(found);
+    };
+    done(image.nodes, image.marks)
 }
 
 // The parent list of a sound image.

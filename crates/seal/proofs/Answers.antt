@@ -1,13 +1,13 @@
 -- What each way out of the call comes to, by the rows of `meaning`.
 use mathlib.Core.Path.{_≡_, sym, ap, _∙_}
 use mathlib.Core.List.{List}
-use Prim.Native.Nat.{ℕ, _+_, _*_, _≤_, _<_}
+use Prim.Native.Nat.{ℕ, _*_, _≤_, _<_}
 use native.Mathlib.Omega.{arith}
 use borrow.Author.Tests.{lt-ltb, le-ltb}
 use lib.ListN.{length}
 use Rattle.meaning.specs.Parents.{IsParents, badEntry}
 use Rattle.meaning.specs.Strings.{R1, R0, stringOf}
-use Rattle.meaning.specs.Image.{imageOfParts, imageOfString}
+use Rattle.meaning.specs.Image.{imageOfString}
 use Rattle.meaning.specs.Answers.{refusedWith, counts, cameTo, written}
 use Rattle.meaning.specs.Calls.{imageOfParents}
 use Rattle.theory.proofs.Settled.{below, beyond, between, settle-here, settle-on, settle-none}

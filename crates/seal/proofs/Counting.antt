@@ -1,12 +1,12 @@
 -- Bytes cleared, and the counts of earlier ones put into a string's blocks: what the loops keep.
 use mathlib.Core.Path.{_≡_, refl, sym, ap, ap₂, _∙_, subst}
 use mathlib.Core.List.{List, [], _∷_, _++_}
-use Prim.Native.Nat.{ℕ, zero, suc, _+_, _-_, _*_, _/_, _%_, _^_, _≤_, _<_}
+use Prim.Native.Nat.{ℕ, zero, suc, _+_, _-_, _*_, _/_, _%_, _≤_, _<_}
 use native.Mathlib.Decide.{decLt, ℕ-discrete}
 use native.Mathlib.Numerals.{add-one}
 use native.Mathlib.Omega.{arith}
 use lib.ListN.{length, getD, take, drop, set, replicate, length-take, length-replicate}
-use lib.Seq.{drop-cons, set-at, take-suc, length-take-le}
+use lib.Seq.{drop-cons, set-at, take-suc}
 use Rattle.meaning.specs.Strings.{Bit, O, I, ones}
 use Rattle.meaning.specs.Bytes.{value, bitAt}
 use Rattle.meaning.specs.Image.{stringBlocks, stringIn}
@@ -14,7 +14,6 @@ use Rattle.theory.specs.Layout.{wordAt}
 use Rattle.theory.proofs.Odd.{ones-append}
 use Rattle.theory.proofs.Payloads.{ones-le}
 use Rattle.theory.proofs.TreeImages.{length-stringIn, stringIn-at}
-use Rattle.blocks.specs.Sealed.{withWord}
 use Rattle.seal.specs.Filled.{placeOf}
 use Rattle.seal.specs.Passes.{Counted, countedAt}
 use Rattle.seal.proofs.Placing.{bit-agree, word-agree, put-length, put-word, put-byte, counted-here, counted-not}

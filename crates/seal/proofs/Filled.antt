@@ -1,24 +1,24 @@
 -- Payloads filled as they must be, and then sealed, are the image.
-use mathlib.Core.Path.{_≡_, refl, sym, ap, ap₂, _∙_, subst}
+use mathlib.Core.Path.{_≡_, sym, ap, _∙_, subst}
 use mathlib.Core.List.{List, [], _∷_, _++_}
-use Prim.Native.Nat.{ℕ, zero, suc, _+_, _-_, _*_, _/_, _%_, _≤_, _<_}
+use Prim.Native.Nat.{ℕ, suc, _+_, _-_, _*_, _≤_, _<_}
 use native.Mathlib.Omega.{arith}
-use lib.ListN.{length, getD, take, drop, List·getD-eq-default}
+use lib.ListN.{length, getD, drop, List·getD-eq-default}
 use lib.Seq.{ext-getD}
-use Rattle.meaning.specs.Strings.{Bit, O, ones}
+use Rattle.meaning.specs.Strings.{Bit, O}
 use Rattle.meaning.specs.Bytes.{bitAt}
 use Rattle.meaning.specs.Blocks.{wordBytes, words, sums, sumStart, padded, block, sealed}
 use Rattle.meaning.specs.Image.{stringBlocks, samples, sampleBlocks, stringIn, imageOfParts}
-use Rattle.theory.specs.Layout.{AreBytes, wordAt, stringWord, sampleWord, startR0, startS1, startS0, total, Laid}
+use Rattle.theory.specs.Layout.{AreBytes, wordAt, stringWord, sampleWord, startR0, startS1, startS0, total}
 use Rattle.theory.specs.Stages.{Kept}
 use Rattle.theory.proofs.Digits.{append-bytes, words-bytes, take-bytes, drop-bytes, wordAt-take, wordAt-drop}
 use Rattle.theory.proofs.Sealing.{length-sealed, sealed-word, sealed-checks, padded-bytes}
 use Rattle.theory.proofs.Images.{unlaid}
 use Rattle.theory.proofs.TreeImages.{length-stringIn, stringIn-at}
 use Rattle.theory.proofs.Stages.{word-is}
-use Rattle.blocks.specs.Sealed.{payload, payloadsIn}
+use Rattle.blocks.specs.Sealed.{payloadsIn}
 use Rattle.blocks.proofs.Laws.{length-payloadsIn, payloadsIn-at}
-use Rattle.seal.specs.Filled.{placeOf, samplePlace, Part, Counts, Parts, Filled}
+use Rattle.seal.specs.Filled.{placeOf, samplePlace, Part, Counts, Filled}
 
 -- ---- sealed bytes are bytes
 

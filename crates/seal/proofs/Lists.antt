@@ -7,7 +7,7 @@ use native.Mathlib.Decide.{decLt}
 use native.Mathlib.Omega.{arith}
 use lib.ListN.{length, getD, replicate, length-append, length-replicate}
 use lib.Seq.{getD-append-add}
-use Rattle.meaning.specs.Strings.{Bit, O, I, ones, R1, R0, stringFrom, stringOf}
+use Rattle.meaning.specs.Strings.{Bit, O, I, R1, R0, stringFrom, stringOf}
 use Rattle.meaning.specs.Parents.{IsParents}
 use Rattle.theory.proofs.Runs.{ends, ends1, ends0, R1-bits, R0-bits}
 use Rattle.strings.proofs.Marking.{Rising, parents-rising}

@@ -1,10 +1,9 @@
 -- A string and its samples in an image: nothing at first, one zero more, and one run more.
-use mathlib.Core.Path.{_≡_, refl, sym, ap, ap₂, _∙_, subst}
+use mathlib.Core.Path.{_≡_, refl, sym, ap, ap₂, _∙_}
 use mathlib.Core.Logic.{_⊎_, inl, inr}
 use mathlib.Core.List.{List, [], _∷_, _++_}
-use Prim.Native.Nat.{ℕ, zero, suc, _+_, _-_, _*_, _/_, _%_, _^_, _≤_, _<_}
+use Prim.Native.Nat.{ℕ, zero, suc, _+_, _-_, _*_, _/_, _%_, _≤_, _<_}
 use native.Mathlib.Decide.{decLt, ℕ-discrete}
-use native.Mathlib.Numerals.{add-one}
 use native.Mathlib.Omega.{arith}
 use lib.ListN.{length, getD, replicate, length-replicate, List·getD-eq-default}
 use lib.Seq.{getD-append-add, getD-at}
@@ -19,7 +18,6 @@ use Rattle.theory.proofs.Payloads.{length-samples, sample-at}
 use Rattle.bits.specs.Appended.{lit}
 use Rattle.bits.proofs.Appending.{lit-length, lit-same, lit-other}
 use Rattle.bits.proofs.Placing.{position-front}
-use Rattle.blocks.specs.Sealed.{withWord}
 use Rattle.seal.specs.Filled.{placeOf, samplePlace, Part}
 use Rattle.seal.specs.Passes.{marked}
 use Rattle.seal.proofs.Walking.{ones-run}

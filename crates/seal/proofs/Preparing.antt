@@ -1,7 +1,7 @@
 -- The passes one after the other: they fill the payloads, and the sums make them the image.
 use mathlib.Core.Path.{_≡_, refl, sym, ap, ap₂, _∙_, subst, subst₂}
 use mathlib.Core.List.{List, [], _∷_, _++_}
-use Prim.Native.Nat.{ℕ, zero, suc, _+_, _-_, _*_, _/_, _%_, _^_, _≤_, _<_}
+use Prim.Native.Nat.{ℕ, _+_, _-_, _*_, _/_, _%_, _≤_, _<_}
 use native.Mathlib.Omega.{arith}
 use lib.ListN.{length, getD, take, drop, replicate, length-append, length-drop, length-replicate, getD-replicate, List·getD-append}
 use lib.Seq.{ext-getD, getD-drop, getD-append-add}
@@ -11,14 +11,14 @@ use Rattle.meaning.specs.Strings.{Bit, ones, R1, R0, stringOf}
 use Rattle.meaning.specs.Blocks.{sealed}
 use Rattle.meaning.specs.Image.{stringBlocks, samples, sampleBlocks, stringIn, imageOfParts, imageOfString}
 use Rattle.theory.specs.Layout.{AreBytes, wordAt, startR0, startS1, startS0, total}
-use Rattle.theory.specs.Stages.{blocksOfSamples, zerosFrom, samplesFrom, blocksNeeded}
+use Rattle.theory.specs.Stages.{blocksOfSamples, zerosFrom, samplesFrom}
 use Rattle.theory.proofs.Payloads.{ones-le, length-samples}
 use Rattle.theory.proofs.Images.{parts-size}
 use Rattle.strings.proofs.Marking.{good-parents}
 use Rattle.blocks.specs.Sealed.{payloadsIn}
 use Rattle.seal.specs.Filled.{Part, Counts, Filled}
 use Rattle.seal.specs.Passes.{marksIn, blocksFor, Ready, Ran, Counted, headed, Prepared}
-use Rattle.seal.proofs.Walking.{Sizes, sizes}
+use Rattle.seal.proofs.Walking.{sizes}
 use Rattle.seal.proofs.Placing.{word-agree, headed-byte, headed-word}
 use Rattle.seal.proofs.Parting.{part-agree}
 use Rattle.seal.proofs.Filled.{part-string, filled-image}

@@ -1,16 +1,16 @@
 -- What the pass over a parent list keeps: both strings so far and their samples, the header still blank, and the rest of the image as it was.
-use mathlib.Core.Path.{_≡_, refl, sym, ap, ap₂, _∙_, subst, subst₂}
+use mathlib.Core.Path.{_≡_, refl, sym, ap, _∙_, subst, subst₂}
 use mathlib.Core.List.{List, [], _∷_, _++_, append-nil}
-use Prim.Native.Nat.{ℕ, zero, suc, _+_, _-_, _*_, _/_, _%_, _≤_, _<_}
+use Prim.Native.Nat.{ℕ, _+_, _-_, _*_, _/_, _≤_, _<_}
 use native.Mathlib.Omega.{arith}
-use lib.ListN.{length, getD, drop, replicate}
+use lib.ListN.{length, getD, drop}
 use Rattle.meaning.specs.Parents.{IsParents}
 use Rattle.meaning.specs.Strings.{Bit, O, I, ones, R1, R0, stringOf}
-use Rattle.meaning.specs.Image.{stringBlocks, samples}
-use Rattle.theory.specs.Stages.{blocksOfSamples, zerosFrom, samplesFrom, blocksNeeded}
+use Rattle.meaning.specs.Image.{stringBlocks}
+use Rattle.theory.specs.Stages.{blocksOfSamples, samplesFrom}
 use Rattle.theory.proofs.Payloads.{ones-le}
 use Rattle.strings.proofs.Marking.{good-parents}
-use Rattle.seal.specs.Listed.{nextOf, endsOf, gapsOf}
+use Rattle.seal.specs.Listed.{nextOf}
 use Rattle.seal.specs.Filled.{Part}
 use Rattle.seal.specs.Passes.{marked, marksIn, blocksFor, Ready, Ran}
 use Rattle.seal.proofs.Lists.{R1-listed, R0-listed}

@@ -6,7 +6,7 @@ use native.Mathlib.Numerals.{add-one}
 use native.Mathlib.Omega.{arith}
 use lib.ListN.{length, getD, drop, replicate, length-append, length-replicate, drop-of-length-le}
 use lib.Seq.{drop-cons}
-use Rattle.meaning.specs.Parents.{IsParents, parents}
+use Rattle.meaning.specs.Parents.{IsParents}
 use Rattle.meaning.specs.Strings.{Bit, O, I, ones, R1, R0, lbs, stringOf}
 use Rattle.theory.proofs.Odd.{ones-append}
 use Rattle.theory.proofs.Payloads.{ones-le}
@@ -14,7 +14,7 @@ use Rattle.theory.proofs.Parents.{are-parents}
 use Rattle.theory.proofs.Forms.{length-parents, length-R1, length-R0, string-parents, marks-same}
 use Rattle.strings.proofs.Marking.{Rising, parents-rising}
 use Rattle.seal.specs.Listed.{nextOf, markOf, gapOf, endsOf, gapsOf}
-use Rattle.seal.proofs.Lists.{R1-listed, R0-listed}
+use Rattle.seal.proofs.Lists.{R1-listed}
 
 -- ---- how long the strings of a parent list are
 

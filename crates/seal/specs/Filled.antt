@@ -1,7 +1,7 @@
 -- What must stand in the payloads of a lent image before its blocks are sealed, by words and bits.
 use mathlib.Core.Path.{_≡_}
 use mathlib.Core.List.{List, [], _∷_}
-use Prim.Native.Nat.{ℕ, _+_, _*_, _/_, _%_, _<_, _≤_}
+use Prim.Native.Nat.{ℕ, _+_, _*_, _/_, _%_, _<_}
 use lib.ListN.{length, getD, take}
 use Rattle.meaning.specs.Strings.{Bit, O, ones}
 use Rattle.meaning.specs.Bytes.{bitAt}

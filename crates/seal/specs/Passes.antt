@@ -1,12 +1,12 @@
 -- The passes that fill a lent image: what each needs, what it writes, and that it changes nothing else.
 use mathlib.Core.Path.{_≡_}
 use mathlib.Core.Bool.{cond}
-use mathlib.Core.List.{List, [], _∷_}
+use mathlib.Core.List.{List}
 use Prim.Native.Nat.{ℕ, _+_, _*_, _/_, _%_, _<_, _≤_}
 use lib.Dec.{eqb}
 use lib.ListN.{length, getD, take}
 use Rattle.meaning.specs.Parents.{badEntry}
-use Rattle.meaning.specs.Strings.{Bit, ones, R1, R0, stringOf}
+use Rattle.meaning.specs.Strings.{ones, R1, R0, stringOf}
 use Rattle.meaning.specs.Image.{stringBlocks, stringIn}
 use Rattle.theory.specs.Layout.{wordAt}
 use Rattle.theory.specs.Stages.{blocksOfSamples, zerosFrom, samplesFrom, blocksNeeded}

@@ -6,7 +6,6 @@ use Prim.Native.Nat.{_-_}
 use borrow.Author.Needs.{needs}
 use native.Mathlib.Omega.{arith}
 use mathlib.Core.Logic.{⊎-elim}
-use mathlib.Core.Path.{_≡_, refl, sym, ap, ap₂, _∙_}
 use Rattle.seal.proofs.count_marks.Statement.{statement}
 use Rattle.seal.proofs.count_marks.Tie as tie
 

@@ -2,7 +2,6 @@
 use Rattle.seal.proofs.Preparing.{few-marks, ready, all-prepared}
 use Rattle.strings.proofs.Marking.{good-parents}
 use native.Mathlib.Omega.{arith}
-use mathlib.Core.Path.{_≡_, refl, sym, ap, ap₂, _∙_}
 use borrow.Author.Needs.{needs}
 use Rattle.seal.proofs.fill.Statement.{statement}
 use Rattle.seal.proofs.fill.Tie as tie

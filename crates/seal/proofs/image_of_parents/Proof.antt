@@ -7,7 +7,7 @@ use Rattle.theory.specs.Stages.{blocksNeeded}
 use Rattle.meaning.specs.Answers.{cameTo}
 use Rattle.strings.proofs.Marking.{good-parents}
 use native.Mathlib.Omega.{arith}
-use mathlib.Core.Path.{_≡_, refl, sym, ap, ap₂, _∙_}
+use mathlib.Core.Path.{sym, ap, ap₂, _∙_}
 use borrow.Author.Needs.{needs}
 use Rattle.seal.proofs.image_of_parents.Statement.{statement}
 use Rattle.seal.proofs.image_of_parents.Tie as tie

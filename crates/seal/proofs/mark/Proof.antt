@@ -3,7 +3,7 @@ use Rattle.seal.proofs.Placing.{marked-sample, marked-plain}
 use Rattle.seal.specs.Filled.{samplePlace}
 use Rattle.blocks.specs.Sealed.{withWord}
 use Prim.Native.Nat.{_+_, _/_}
-use mathlib.Core.Path.{_≡_, refl, sym, ap, ap₂, _∙_}
+use mathlib.Core.Path.{sym, ap, _∙_}
 use borrow.Author.Needs.{needs}
 use Rattle.seal.proofs.mark.Statement.{statement}
 use Rattle.seal.proofs.mark.Tie as tie

@@ -1,13 +1,12 @@
 -- `seal::mark_runs` meets its contract.
 use Rattle.seal.proofs.Running.{Running, marks-few, running-first, running-same, running-order, running-mark, running-last}
-use Rattle.seal.proofs.Walking.{walk-few}
 use Rattle.seal.specs.Passes.{marked}
 use lib.ListN.{length}
-use Prim.Native.Nat.{_+_, _-_}
+use Prim.Native.Nat.{_-_}
 use borrow.Author.Needs.{needs}
 use native.Mathlib.Omega.{arith}
 use mathlib.Core.Logic.{⊎-elim}
-use mathlib.Core.Path.{_≡_, refl, sym, ap, ap₂, _∙_}
+use mathlib.Core.Path.{ap, _∙_}
 use Rattle.seal.proofs.mark_runs.Statement.{statement}
 use Rattle.seal.proofs.mark_runs.Tie as tie
 

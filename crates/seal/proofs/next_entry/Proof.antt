@@ -1,7 +1,7 @@
 -- `seal::next_entry` meets its contract.
 use Prim.Native.Nat.{_+_}
 use Rattle.seal.proofs.Walking.{next-there, next-end}
-use mathlib.Core.Path.{_≡_, refl, sym, ap, ap₂, _∙_}
+use mathlib.Core.Path.{_∙_}
 use borrow.Author.Needs.{needs}
 use Rattle.seal.proofs.next_entry.Statement.{statement}
 use Rattle.seal.proofs.next_entry.Tie as tie

@@ -1,6 +1,6 @@
 -- `seal::put_count` meets its contract.
 use Rattle.seal.proofs.Placing.{counted-here, counted-not}
-use mathlib.Core.Path.{_≡_, refl, sym, ap, ap₂, _∙_}
+use mathlib.Core.Path.{sym, _∙_}
 use borrow.Author.Needs.{needs}
 use Rattle.seal.proofs.put_count.Statement.{statement}
 use Rattle.seal.proofs.put_count.Tie as tie

@@ -3,7 +3,7 @@ use Rattle.seal.proofs.Counting.{Counting, counting-first, counting-few
 use Prim.Native.Nat.{_-_}
 use borrow.Author.Needs.{needs}
 use native.Mathlib.Omega.{arith}
-use mathlib.Core.Path.{_≡_, refl, sym, ap, ap₂, _∙_}
+use mathlib.Core.Path.{_∙_}
 use Rattle.seal.proofs.put_counts.Statement.{statement}
 use Rattle.seal.proofs.put_counts.Tie as tie
 

@@ -1,7 +1,7 @@
 -- `seal::put_header` meets its contract.
 use Rattle.seal.specs.Passes.{headed}
 use Rattle.blocks.specs.Sealed.{withWord}
-use mathlib.Core.Path.{_≡_, refl, sym, ap, ap₂, _∙_}
+use mathlib.Core.Path.{ap, _∙_}
 use borrow.Author.Needs.{needs}
 use Rattle.seal.proofs.put_header.Statement.{statement}
 use Rattle.seal.proofs.put_header.Tie as tie

@@ -2,7 +2,7 @@
 use Rattle.seal.proofs.Preparing.{few-marks, prepared-sealed}
 use Rattle.strings.proofs.Marking.{good-parents}
 use native.Mathlib.Omega.{arith}
-use mathlib.Core.Path.{_≡_, refl, sym, ap, ap₂, _∙_}
+use mathlib.Core.Path.{_∙_}
 use borrow.Author.Needs.{needs}
 use Rattle.seal.proofs.write_image.Statement.{statement}
 use Rattle.seal.proofs.write_image.Tie as tie
