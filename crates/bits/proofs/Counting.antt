@@ -2,7 +2,7 @@
 use mathlib.Core.Path.{_≡_, refl, sym, ap, ap₂, _∙_}
 use mathlib.Core.Bool.{Bool}
 use mathlib.Core.List.{List, [], _∷_, _++_}
-use Prim.Native.Nat.{ℕ, zero, suc, _+_, _-_, _*_, _/_, _%_, _^_, _<_, _≤_}
+use Prim.Native.Nat.{ℕ, zero, suc, _+_, _-_, _*_, _%_, _^_, _<_, _≤_}
 use native.Mathlib.Decide.{decLt}
 use native.Mathlib.Omega.{arith}
 use lib.Dec.{eqb, eqb→eq}
@@ -17,11 +17,10 @@ use Rattle.meaning.specs.Bytes.{bit, bitAt, bitsFrom, number}
 use Rattle.theory.specs.Layout.{AreBytes}
 use Rattle.theory.proofs.Digits.{byte-lt}
 use Rattle.theory.proofs.Odd.{ones-append}
-use Rattle.theory.proofs.Packing.{bits-length, bits-at}
+use Rattle.theory.proofs.Packing.{bits-length, bits-cut, bits-of-byte}
 use Rattle.bits.specs.Appended.{byteBits}
 use Rattle.bits.proofs.Table.{at}
-use Rattle.bits.proofs.Byte.{digit, byte-digit, number-digit, zeros-at}
-use Rattle.bits.proofs.Appending.{bit-digit}
+use Rattle.bits.proofs.Byte.{byte-digit, number-digit, zeros-at}
 
 -- ---- a byte
 
@@ -73,21 +72,7 @@ glue-ones k w x h g l =
     rw (shl-exact {a = x} 8 k 64 g (omega arith)) (ap count.ones (or-shifted-r x k w h) ∙ ones-cat k x w h)
 
 bits-byte : (bytes : List ℕ) (i : ℕ) → bitsFrom bytes (8 * i) 8 ≡ byteBits (getD bytes i 0)
-bits-byte bytes i =
-    let x = getD bytes i 0 in
-    let l = bits-length bytes (8 * i) 8 in
-    ext-getD O (bitsFrom bytes (8 * i) 8) (byteBits x) (l ∙ sym (bits-length (x ∷ []) 0 8))
-    (λ j h. let g : j < 8 = omega arith in
-    bits-at bytes (8 * i) 8 j g ∙ bit-digit bytes (8 * i + j)
-    ∙ ap₂ (λ q r. digit (getD bytes q 0) r) (let e : (8 * i + j) / 8 ≡ i = omega arith in e) (let e : (8 * i + j) % 8 ≡ j = omega arith in e)
-    ∙ sym (byte-digit x j g))
-
-bits-split : (bytes : List ℕ) (p m n : ℕ) → bitsFrom bytes p (m + n) ≡ bitsFrom bytes p m ++ bitsFrom bytes (p + m) n
-unfolding bitsFrom
-bits-split bytes p zero n = ap₂ (λ q k. bitsFrom bytes q k) (let e : p ≡ p + 0 = omega arith in e) (let e : 0 + n ≡ n = omega arith in e)
-bits-split bytes p (suc m) n =
-    ap (bitsFrom bytes p) (let e : suc m + n ≡ suc (m + n) = omega arith in e)
-    ∙ ap (λ l. bitAt bytes p ∷ l) (bits-split bytes (suc p) m n ∙ ap (λ q. bitsFrom bytes (suc p) m ++ bitsFrom bytes q n) (let e : suc p + m ≡ p + suc m = omega arith in e))
+bits-byte bytes i = ap (λ p. bitsFrom bytes p 8) (let e : 8 * i ≡ 8 * i + 0 = omega arith in e) ∙ bits-of-byte bytes i 0 8 (omega arith)
 
 -- the ones of n bytes, one byte after the other
 abbrev pub byByte : List ℕ → ℕ → ℕ → ℕ
@@ -99,7 +84,7 @@ unfolding bitsFrom
 by-byte bytes i zero h = refl
 by-byte bytes i (suc n) h =
     ap (λ k. ones (bitsFrom bytes (8 * i) k)) (let e : 8 * suc n ≡ 8 + 8 * n = omega arith in e)
-    ∙ ap (λ l. ones l) (bits-split bytes (8 * i) 8 (8 * n) ∙ ap₂ (λ l q. l ++ bitsFrom bytes q (8 * n)) (bits-byte bytes i) (let e : 8 * i + 8 ≡ 8 * suc i = omega arith in e))
+    ∙ ap (λ l. ones l) (bits-cut bytes 8 (8 * n) (8 * i) ∙ ap₂ (λ l q. l ++ bitsFrom bytes q (8 * n)) (bits-byte bytes i) (let e : 8 * i + 8 ≡ 8 * suc i = omega arith in e))
     ∙ ones-append (byteBits (getD bytes i 0)) (bitsFrom bytes (8 * suc i) (8 * n))
     ∙ ap₂ (λ a b. a + b) (sym (byte-ones (getD bytes i 0) (byte-lt bytes h i))) (by-byte bytes (suc i) n h)
 

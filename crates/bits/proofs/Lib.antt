@@ -5,3 +5,4 @@ pub mod Appending
 pub mod Writing
 pub mod Counting
 pub mod Placing
+pub mod Runs

@@ -1,6 +1,6 @@
 // Bits in bytes, most significant first.
 ghost use mathlib.Core.Path.{_≡_};
-ghost use Prim.Native.Nat.{_+_, _*_, _<_, _≤_};
+ghost use Prim.Native.Nat.{_+_, _*_, _/_, _<_, _≤_};
 ghost use lib.ListN.{getD, replicate, take};
 ghost use Rattle.meaning.specs.Strings.{O, ones};
 ghost use Rattle.meaning.specs.Bytes.{bitAt, bitsFrom, number, value};
@@ -103,6 +103,29 @@ pub fn ones_in_word(b: &[u8], at: usize) -> u32
             | (wide(b[at + 6]) << 48)
             | (wide(b[at + 7]) << 56),
     )
+}
+
+// How many of the n bits from byte `at` on are one: words of eight bytes, then bytes, then the front of the last byte.
+pub fn ones_from(b: &[u8], at: usize, n: usize) -> u32
+    requires { ⌜ n ≤ 4000 ⌝ }
+    requires { do ⌜ at + (n + 7) / 8 ≤ (← ⟦b.len()⟧) ⌝ }
+    ensures { λ r. ⌜ r ≡ ones (bitsFrom (now (b .entry)) (8 * at) n) ⌝ }
+{
+    let whole = n / 8;
+    let mut count: u32 = 0;
+    let mut i: usize = 0;
+    while i + 8 <= whole {
+        count += ones_in_word(b, at + i);
+        i += 8;
+    }
+    while i < whole {
+        count += ones_in_byte(b[at + i]);
+        i += 1;
+    }
+    if n % 8 == 0 {
+        return count;
+    }
+    count + ones_in_front(b[at + whole], n % 8)
 }
 
 // A table of sixteen rows of four: the place 1 to 4 of the first to fourth one of a four-bit value, most significant first, 0 where it has fewer.

@@ -10,9 +10,8 @@ ghost use Rattle.stages.specs.Parts.{Counted, Unused, ZeroBytes};
 ghost use Rattle.stages.specs.Steps.{StepWithin, onesTo};
 ghost use Rattle.stages.specs.Samples.{RestZero, SampledHere, SampledWithin};
 use bits::bit_at;
+use bits::ones_from;
 use bits::ones_in_byte;
-use bits::ones_in_front;
-use bits::ones_in_word;
 use blocks::word;
 
 // Bit i of the string whose blocks begin at block `first`.
@@ -108,29 +107,6 @@ fn header_right(b: &[u8], blocks: usize) -> bool
     zeros_between(b, 16, 504)
 }
 
-// How many of the n bits from byte `at` on are one: words of eight bytes, then bytes, then the front of the last byte.
-fn ones_in_block(b: &[u8], at: usize, n: usize) -> u32
-    requires { ⌜ n ≤ 4000 ⌝ }
-    requires { do ⌜ at + (n + 7) / 8 ≤ (← ⟦b.len()⟧) ⌝ }
-    ensures { λ r. ⌜ r ≡ ones (bitsFrom (now (b .entry)) (8 * at) n) ⌝ }
-{
-    let whole = n / 8;
-    let mut count: u32 = 0;
-    let mut i: usize = 0;
-    while i + 8 <= whole {
-        count += ones_in_word(b, at + i);
-        i += 8;
-    }
-    while i < whole {
-        count += ones_in_byte(b[at + i]);
-        i += 1;
-    }
-    if n % 8 == 0 {
-        return count;
-    }
-    count + ones_in_front(b[at + whole], n % 8)
-}
-
 // How many of the n bits of the string whose blocks begin at block `first` are one.
 fn ones_in_string(b: &[u8], first: usize, n: usize) -> u32
     requires { ⌜ n ≤ 65536 ⌝ }
@@ -142,13 +118,13 @@ fn ones_in_string(b: &[u8], first: usize, n: usize) -> u32
     let mut count: u32 = 0;
     let mut j: usize = 0;
     while j < full {
-        count += ones_in_block(b, 512 * (first + j) + 4, 4000);
+        count += ones_from(b, 512 * (first + j) + 4, 4000);
         j += 1;
     }
     if n % 4000 == 0 {
         return count;
     }
-    count + ones_in_block(b, 512 * (first + full) + 4, n % 4000)
+    count + ones_from(b, 512 * (first + full) + 4, n % 4000)
 }
 
 // Has the string of n bits m ones, the last bit among them?
@@ -180,7 +156,7 @@ fn counts_kept(b: &[u8], first: usize, n: usize) -> bool
         if word(b, 512 * (first + j)) != earlier {
             return false;
         }
-        earlier += ones_in_block(b, 512 * (first + j) + 4, 4000);
+        earlier += ones_from(b, 512 * (first + j) + 4, 4000);
         j += 1;
     }
     // the ones of the last block are in no count

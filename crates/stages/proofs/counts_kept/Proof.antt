@@ -6,7 +6,8 @@ use Rattle.meaning.specs.Strings.{ones}
 use Rattle.meaning.specs.Image.{stringIn}
 use Rattle.stages.specs.Parts.{Counted}
 use Rattle.stages.proofs.Saying.{says-is}
-use Rattle.stages.proofs.Pieces.{CountedTo, no-string, bits-ones-le, string-ones-le, full-more, counted-more, counted-all, counted-last}
+use Rattle.bits.proofs.Runs.{bits-ones-le}
+use Rattle.stages.proofs.Pieces.{CountedTo, no-string, string-ones-le, full-more, counted-more, counted-all, counted-last}
 use Rattle.stages.proofs.counts_kept.Statement.{statement}
 use Rattle.stages.proofs.counts_kept.Tie as tie
 
@@ -36,17 +37,17 @@ returns c =
     let l = c .before .before .before .loop in
     λ k. c .if1 .taken (c .before .word .ensures ∙ k (l .j) (omega arith) ∙ sym (l .inv .1))
 
-add-ones-in-block : tie.Need-add-ones-in-block Inv-loop μ-loop
-add-ones-in-block c = omega arith
+add-ones-from : tie.Need-add-ones-from Inv-loop μ-loop
+add-ones-from c = omega arith
 
-mul-ones-in-block : tie.Need-mul-ones-in-block Inv-loop μ-loop
-mul-ones-in-block c = omega arith
+mul-ones-from : tie.Need-mul-ones-from Inv-loop μ-loop
+mul-ones-from c = omega arith
 
-add-ones-in-block-2 : tie.Need-add-ones-in-block-2 Inv-loop μ-loop
-add-ones-in-block-2 c = omega arith
+add-ones-from-2 : tie.Need-add-ones-from-2 Inv-loop μ-loop
+add-ones-from-2 c = omega arith
 
-ones-in-block-requires : tie.Need-ones-in-block-requires Inv-loop μ-loop
-ones-in-block-requires c κs = (omega arith, omega arith)
+ones-from-requires : tie.Need-ones-from-requires Inv-loop μ-loop
+ones-from-requires c κs = (omega arith, omega arith)
 
 add-earlier : tie.Need-add-earlier Inv-loop μ-loop
 add-earlier c =
@@ -67,7 +68,7 @@ loop-again c =
     let a = c .before .before .before .before .before .before .args in
     let j = l .j in (
       omega arith,
-      ap₂ _+_ (l .inv .1) (c .ones-in-block .ensures) ∙ full-more (a .b .now) (a .first) j,
+      ap₂ _+_ (l .inv .1) (c .ones-from .ensures) ∙ full-more (a .b .now) (a .first) j,
       counted-more (a .b .now) (a .first) j
           (l .inv .2) (sym (c .before .before .word .ensures) ∙ c .before .if1 .left ∙ l .inv .1),
     )
@@ -102,10 +103,10 @@ counts-kept-spec =
     mul-word
     word-requires
     returns
-    add-ones-in-block
-    mul-ones-in-block
-    add-ones-in-block-2
-    ones-in-block-requires
+    add-ones-from
+    mul-ones-from
+    add-ones-from-2
+    ones-from-requires
     add-earlier
     add-j
     loop-less

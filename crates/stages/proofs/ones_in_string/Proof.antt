@@ -4,7 +4,8 @@ use Prim.Native.Nat.{_+_, _-_, _*_, _/_, _%_, _≤_}
 use native.Mathlib.Omega.{arith}
 use Rattle.meaning.specs.Strings.{ones}
 use Rattle.meaning.specs.Image.{stringIn}
-use Rattle.stages.proofs.Pieces.{no-string, bits-ones-le, string-ones-le, full-more, rest-more}
+use Rattle.bits.proofs.Runs.{bits-ones-le}
+use Rattle.stages.proofs.Pieces.{no-string, string-ones-le, full-more, rest-more}
 use Rattle.stages.proofs.ones_in_string.Statement.{statement}
 use Rattle.stages.proofs.ones_in_string.Tie as tie
 
@@ -17,17 +18,17 @@ abbrev μ-loop : tie.MeasureT-loop
 loop-holds : tie.Need-loop-holds Inv-loop μ-loop
 loop-holds c = (omega arith, no-string (c .before .args .b .now) (c .before .args .first))
 
-add-ones-in-block : tie.Need-add-ones-in-block Inv-loop μ-loop
-add-ones-in-block c = omega arith
+add-ones-from : tie.Need-add-ones-from Inv-loop μ-loop
+add-ones-from c = omega arith
 
-mul-ones-in-block : tie.Need-mul-ones-in-block Inv-loop μ-loop
-mul-ones-in-block c = omega arith
+mul-ones-from : tie.Need-mul-ones-from Inv-loop μ-loop
+mul-ones-from c = omega arith
 
-add-ones-in-block-2 : tie.Need-add-ones-in-block-2 Inv-loop μ-loop
-add-ones-in-block-2 c = omega arith
+add-ones-from-2 : tie.Need-add-ones-from-2 Inv-loop μ-loop
+add-ones-from-2 c = omega arith
 
-ones-in-block-requires : tie.Need-ones-in-block-requires Inv-loop μ-loop
-ones-in-block-requires c κs = (omega arith, omega arith)
+ones-from-requires : tie.Need-ones-from-requires Inv-loop μ-loop
+ones-from-requires c κs = (omega arith, omega arith)
 
 add-count : tie.Need-add-count Inv-loop μ-loop
 add-count c =
@@ -47,7 +48,7 @@ loop-again c =
     let l = c .before .before .loop in
     let a = c .before .before .before .before .args in
     let j = l .j in
-    (omega arith, ap₂ _+_ (l .inv .1) (c .ones-in-block .ensures) ∙ full-more (a .b .now) (a .first) j)
+    (omega arith, ap₂ _+_ (l .inv .1) (c .ones-from .ensures) ∙ full-more (a .b .now) (a .first) j)
 
 returns : tie.Need-returns Inv-loop μ-loop
 returns c =
@@ -55,17 +56,17 @@ returns c =
     let a = c .before .before .before .before .args in
     l .inv .1 ∙ ap (λ k. ones (stringIn (a .b .now) (a .first) 0 k)) (let e : 4000 * l .j ≡ a .n = omega arith in e)
 
-add-ones-in-block-3 : tie.Need-add-ones-in-block-3 Inv-loop μ-loop
-add-ones-in-block-3 c = omega arith
+add-ones-from-3 : tie.Need-add-ones-from-3 Inv-loop μ-loop
+add-ones-from-3 c = omega arith
 
-mul-ones-in-block-2 : tie.Need-mul-ones-in-block-2 Inv-loop μ-loop
-mul-ones-in-block-2 c = omega arith
+mul-ones-from-2 : tie.Need-mul-ones-from-2 Inv-loop μ-loop
+mul-ones-from-2 c = omega arith
 
-add-ones-in-block-4 : tie.Need-add-ones-in-block-4 Inv-loop μ-loop
-add-ones-in-block-4 c = omega arith
+add-ones-from-4 : tie.Need-add-ones-from-4 Inv-loop μ-loop
+add-ones-from-4 c = omega arith
 
-ones-in-block-requires-2 : tie.Need-ones-in-block-requires-2 Inv-loop μ-loop
-ones-in-block-requires-2 c κs = (omega arith, omega arith)
+ones-from-requires-2 : tie.Need-ones-from-requires-2 Inv-loop μ-loop
+ones-from-requires-2 c κs = (omega arith, omega arith)
 
 add-result : tie.Need-add-result Inv-loop μ-loop
 add-result c =
@@ -77,9 +78,9 @@ add-result c =
 returns-2 : tie.Need-returns-2 Inv-loop μ-loop
 returns-2 c =
     let l = c .before .before .before .loop in
-    let ones-in-block2 = c .ones-in-block2 in
+    let ones-from2 = c .ones-from2 in
     let a = c .before .before .before .before .before .args in
-    rest-more (a .b .now) (a .first) (a .n) (l .j) (l .count) (ones-in-block2 .result) (omega arith) (l .inv .1) (ones-in-block2 .ensures)
+    rest-more (a .b .now) (a .first) (a .n) (l .j) (l .count) (ones-from2 .result) (omega arith) (l .inv .1) (ones-from2 .ensures)
 
 pub ones-in-string-spec : {M : Type 1} → statement M
 ones-in-string-spec =
@@ -88,18 +89,18 @@ ones-in-string-spec =
     Inv-loop
     μ-loop
     loop-holds
-    add-ones-in-block
-    mul-ones-in-block
-    add-ones-in-block-2
-    ones-in-block-requires
+    add-ones-from
+    mul-ones-from
+    add-ones-from-2
+    ones-from-requires
     add-count
     add-j
     loop-less
     loop-again
     returns
-    add-ones-in-block-3
-    mul-ones-in-block-2
-    add-ones-in-block-4
-    ones-in-block-requires-2
+    add-ones-from-3
+    mul-ones-from-2
+    add-ones-from-4
+    ones-from-requires-2
     add-result
     returns-2)

@@ -1,4 +1,4 @@
--- `stages::ones_in_block` meets its contract.
+-- `bits::ones_from` meets its contract.
 use mathlib.Core.Path.{_≡_, ap, ap₂, _∙_}
 use mathlib.Core.List.{[], _∷_}
 use Prim.Native.Nat.{_+_, _-_, _*_, _/_, _%_, _≤_}
@@ -7,9 +7,9 @@ use borrow.Author.Needs.{needs}
 use lib.ListN.{getD}
 use Rattle.meaning.specs.Strings.{ones}
 use Rattle.meaning.specs.Bytes.{bitsFrom}
-use Rattle.stages.proofs.Pieces.{no-bits, bits-ones-le, front-ones-le, eight-more, one-more, last-more}
-use Rattle.stages.proofs.ones_in_block.Statement.{statement}
-use Rattle.stages.proofs.ones_in_block.Tie as tie
+use Rattle.bits.proofs.Runs.{no-bits, bits-ones-le, front-ones-le, eight-more, one-more, last-more}
+use Rattle.bits.proofs.ones_from.Statement.{statement}
+use Rattle.bits.proofs.ones_from.Tie as tie
 
 abbrev Inv-loop : tie.InvT-loop
 Inv-loop b at n whole count₀ i₀ count i = (i ≤ whole) × (count ≡ ones (bitsFrom b (8 * at) (8 * i)))
@@ -115,8 +115,8 @@ returns-2 c =
     ap₂ _+_ (l .inv .1 ∙ ap (λ k. ones (bitsFrom (a .b .now) (8 * a .at) (8 * k))) (let e : l .i ≡ n / 8 = omega arith in e))
     (c .ones-in-front .ensures) ∙ last-more (a .b .now) (a .at) n
 
-pub ones-in-block-spec : {M : Type 1} → statement M
-ones-in-block-spec =
+pub ones-from-spec : {M : Type 1} → statement M
+ones-from-spec =
     tie.close
     (tie.spec
     Inv-loop
