@@ -1,10 +1,11 @@
-// Blocks of an image: words, the two sums, the lowest block whose sums are wrong.
+// Blocks of an image: words, the two sums, the lowest block whose sums are wrong, and which blocks hold what.
 ghost use mathlib.Core.Path.{_≡_};
 ghost use mathlib.Core.List.{_++_};
 ghost use Prim.Native.Nat.{_+_, _*_, _<_, _≤_};
 ghost use lib.ListN.{take, drop};
 ghost use Rattle.meaning.specs.Blocks.{sums, words, sealed, wrongBlock};
 ghost use Rattle.theory.specs.Layout.{wordAt};
+ghost use Rattle.theory.specs.Stages.{blocksNeeded, blocksOfSamples, samplesFrom, zerosFrom};
 ghost use Rattle.blocks.specs.Sealed.{sumsOf, rightAt, withSums, withWord, payloadsIn};
 use std::num::wrapping_add_u32;
 
@@ -106,4 +107,37 @@ pub fn seal_blocks(b: &mut [u8], blocks: usize)
         seal_block(b, i);
         i += 1;
     }
+}
+
+// The block at which R0 begins: behind the header and the blocks of R1.
+pub fn zeros_from(n: usize) -> usize
+    requires { ⌜ n ≤ 65535 ⌝ }
+    ensures { λ r. ⌜ r ≡ zerosFrom n ⌝ }
+{
+    1 + (n + 3999) / 4000
+}
+
+// The block at which the samples of R1 begin.
+pub fn samples_from(n: usize) -> usize
+    requires { ⌜ n ≤ 65535 ⌝ }
+    ensures { λ r. ⌜ r ≡ samplesFrom n ⌝ }
+{
+    zeros_from(n) + (n + 1 + 3999) / 4000
+}
+
+// How many blocks the samples of m ones take.
+pub fn sample_blocks(m: usize) -> usize
+    requires { ⌜ m ≤ 65535 ⌝ }
+    ensures { λ r. ⌜ r ≡ blocksOfSamples m ⌝ }
+{
+    ((m + 63) / 64 + 125) / 126
+}
+
+// How many blocks n nodes and m marks take: the header, the two strings and their samples.
+pub fn blocks_needed(n: usize, m: usize) -> usize
+    requires { ⌜ n ≤ 65535 ⌝ }
+    requires { ⌜ m ≤ 65535 ⌝ }
+    ensures { λ r. ⌜ r ≡ blocksNeeded n m ⌝ }
+{
+    samples_from(n) + 2 * sample_blocks(m)
 }

@@ -9,16 +9,16 @@ ghost use Rattle.meaning.specs.Strings.{parentsOf, woven};
 ghost use Rattle.theory.specs.Stages.{Header, samplesFrom, zerosFrom};
 ghost use Rattle.image.specs.Threads.{InRuns, upToOne};
 ghost use Rattle.image.specs.Checked.{answered, checked, imageIn};
+use blocks::sample_blocks;
+use blocks::samples_from;
 use blocks::word;
 use blocks::wrong_block;
+use blocks::zeros_from;
 use meaning::Answer;
 use meaning::done;
 use meaning::refuse;
-use stages::sample_blocks;
-use stages::samples_from;
 use stages::stages_pass;
 use stages::string_bit;
-use stages::zeros_from;
 
 // What a checked image is: n and m, its blocks, and the blocks at which R0 and the samples of R1 and of R0 begin.
 pub struct Image {
@@ -58,7 +58,7 @@ fn image_in(b: &[u8], blocks: usize) -> Image
     let marks = word(b, 8);
     let zeros = zeros_from(nodes as usize);
     let samples1 = samples_from(nodes as usize);
-    let samples0 = samples1 + sample_blocks(marks);
+    let samples0 = samples1 + sample_blocks(marks as usize);
     Image {
         nodes,
         marks,

@@ -201,21 +201,20 @@ module _ (old cleared ps : List ℕ) (m t : ℕ) (some : 1 ≤ length ps) (most 
   cleared-is : cleared ≡ replicate (512 * blocksFor ps) 0 ++ drop (512 * blocksFor ps) old
   cleared-is = c ∙ ap (λ k. replicate (512 * k) 0 ++ drop (512 * k) old) et
 
-  pub ready : 512 * t ≤ length old → Ready cleared ps (zerosFrom (length ps)) (samplesFrom (length ps)) (samplesFrom (length ps) + blocksOfSamples m)
-  ready room = record {
+  pub ready : (z f s : ℕ) → z ≡ zerosFrom (length ps) → f ≡ samplesFrom (length ps) → s ≡ blocksOfSamples m → 512 * t ≤ length old → Ready cleared ps z f (f + s)
+  ready z f s ez ef es room = record {
     some = some;
     most = most;
     good = good;
-    isZeros = refl;
-    isFirst = refl;
-    isSecond = ap (λ k. samplesFrom (length ps) + blocksOfSamples k) em;
+    isZeros = ez;
+    isFirst = ef;
+    isSecond = ap₂ _+_ ef (es ∙ ap (λ k. blocksOfSamples k) em);
     room = omega (arith, ap length c, cleared-length old (512 * t) room);
     blank = λ q h. ap (λ s. getD s q 0) cleared-is ∙ cleared-zero old (512 * blocksFor ps) q h;
   }
 
-  pub all-prepared : (ran one two last : List ℕ) → 512 * t ≤ length two → Ran cleared ran ps
-      → Counted ran one 1 (length ps) → Counted one two (zerosFrom (length ps)) (length ps + 1)
-      → last ≡ headed two (length ps) m t → Prepared old last ps
-  all-prepared ran one two last room r c1 c0 e =
-      prepared old cleared ran one two ps (good-parents ps some good) most (omega arith) cleared-is r c1 c0 last
-      (e ∙ ap₂ (λ k n. headed two (length ps) k n) em et)
+  pub all-prepared : (ran one two last : List ℕ) (z : ℕ) → z ≡ zerosFrom (length ps) → 512 * t ≤ length two → Ran cleared ran ps
+      → Counted ran one 1 (length ps) → Counted one two z (length ps + 1) → last ≡ headed two (length ps) m t → Prepared old last ps
+  all-prepared ran one two last z ez room r c1 c0 e =
+      prepared old cleared ran one two ps (good-parents ps some good) most (omega arith) cleared-is r c1
+      (subst (λ k. Counted one two k (length ps + 1)) ez c0) last (e ∙ ap₂ (λ k n. headed two (length ps) k n) em et)

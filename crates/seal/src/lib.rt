@@ -8,7 +8,6 @@ ghost use Rattle.meaning.specs.Calls.{imageOfParents};
 ghost use Rattle.meaning.specs.Image.{stringBlocks, imageOfString};
 ghost use Rattle.meaning.specs.Parents.{badEntry};
 ghost use Rattle.meaning.specs.Strings.{stringOf};
-ghost use Rattle.theory.specs.Stages.{blocksNeeded};
 ghost use Rattle.seal.specs.Listed.{nextOf};
 ghost use Rattle.seal.specs.Passes.{marked, marksIn, blocksFor, Ready, Ran, Counted, countedAt, headed, Prepared};
 use meaning::Answer;
@@ -54,16 +53,6 @@ fn count_marks(ps: &[u32]) -> usize
         i += 1;
     }
     k
-}
-
-// How many blocks the image of a tree of n nodes takes whose strings have m runs each.
-fn blocks_needed(n: usize, m: usize) -> usize
-    requires { ⌜ n ≤ 65535 ⌝ }
-    requires { ⌜ m ≤ n ⌝ }
-    ensures { λ r. ⌜ r ≡ blocksNeeded n m ⌝ }
-{
-    let samples = ((m + 63) / 64 + 125) / 126;
-    1 + (n + 3999) / 4000 + (n + 1 + 3999) / 4000 + (samples + samples)
 }
 
 // The first so many bytes become 0.
@@ -169,9 +158,9 @@ fn fill(image: &mut [u8], ps: &[u32], m: usize, blocks: usize)
     ensures { λ _. ⌜ Prepared (now (image .entry)) (now (image .exit)) (now (ps .entry)) ⌝ }
 {
     let n = ps.len();
-    let zeros = 1 + (n + 3999) / 4000;
-    let first = zeros + (n + 1 + 3999) / 4000;
-    let second = first + ((m + 63) / 64 + 125) / 126;
+    let zeros = blocks::zeros_from(n);
+    let first = blocks::samples_from(n);
+    let second = first + blocks::sample_blocks(m);
     clear(image, 512 * blocks);
     mark_runs(image, ps, zeros, first, second);
     put_counts(image, 1, n);
@@ -209,7 +198,7 @@ pub fn image_of_parents(parents: &[u32], image: &mut [u8]) -> Answer
         return refuse(NOT_PARENTS, bad as u32);
     }
     let marks = count_marks(parents);
-    let blocks = blocks_needed(nodes, marks);
+    let blocks = blocks::blocks_needed(nodes, marks);
     if image.len() < 512 * blocks {
         return refuse(NO_ROOM, 0);
     }

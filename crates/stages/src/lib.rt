@@ -12,7 +12,11 @@ ghost use Rattle.stages.specs.Samples.{RestZero, SampledHere, SampledWit
 use bits::bit_at;
 use bits::ones_from;
 use bits::ones_in_byte;
+use blocks::blocks_needed;
+use blocks::sample_blocks;
+use blocks::samples_from;
 use blocks::word;
+use blocks::zeros_from;
 
 // Bit i of the string whose blocks begin at block `first`.
 pub fn string_bit(b: &[u8], first: usize, i: usize) -> u8
@@ -22,30 +26,6 @@ pub fn string_bit(b: &[u8], first: usize, i: usize) -> u8
     ensures { λ r. ⌜ r ≡ value (bitAt (now (b .entry)) (8 * (512 * (first + i / 4000) + 4) + i % 4000)) ⌝ }
 {
     bit_at(b, 8 * (512 * (first + i / 4000) + 4) + i % 4000)
-}
-
-// The block at which R0 begins: behind the header and the blocks of R1.
-pub fn zeros_from(n: usize) -> usize
-    requires { ⌜ n ≤ 65535 ⌝ }
-    ensures { λ r. ⌜ r ≡ zerosFrom n ⌝ }
-{
-    1 + (n + 3999) / 4000
-}
-
-// The block at which the samples of R1 begin.
-pub fn samples_from(n: usize) -> usize
-    requires { ⌜ n ≤ 65535 ⌝ }
-    ensures { λ r. ⌜ r ≡ samplesFrom n ⌝ }
-{
-    zeros_from(n) + (n + 1 + 3999) / 4000
-}
-
-// How many blocks the samples of m ones take.
-pub fn sample_blocks(m: u32) -> usize
-    requires { ⌜ m ≤ 65535 ⌝ }
-    ensures { λ r. ⌜ r ≡ blocksOfSamples m ⌝ }
-{
-    ((m as usize + 63) / 64 + 125) / 126
 }
 
 // Are the bytes from `from` to before `to` all zero? It looks at every one, whatever it finds, so that it becomes lanes.
@@ -61,16 +41,6 @@ fn zeros_between(b: &[u8], from: usize, to: usize) -> bool
         i += 1;
     }
     seen == 0
-}
-
-// How many blocks n nodes and m marks take: the header, the two strings and their samples.
-fn blocks_needed(n: usize, m: usize) -> usize
-    requires { ⌜ n ≤ 65535 ⌝ }
-    requires { ⌜ m ≤ 65535 ⌝ }
-    ensures { λ r. ⌜ r ≡ blocksNeeded n m ⌝ }
-{
-    let sampled = ((m + 63) / 64 + 125) / 126;
-    1 + (n + 3999) / 4000 + (n + 1 + 3999) / 4000 + (sampled + sampled)
 }
 
 // Is block 0 right: version, n, m, the number of blocks, and zeros behind them?
@@ -393,7 +363,7 @@ fn strings_pass(b: &[u8], n: usize, m: u32) -> bool
     if !samples_right(b, samples, m, 1, n) {
         return false;
     }
-    samples_right(b, samples + sample_blocks(m), m, zeros, n + 1)
+    samples_right(b, samples + sample_blocks(m as usize), m, zeros, n + 1)
 }
 
 // Of an image whose blocks all check: does it pass the stages behind that?

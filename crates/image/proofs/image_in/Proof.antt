@@ -26,14 +26,14 @@ cast-samples-from c = search needs
 samples-from-requires : tie.Need-samples-from-requires
 samples-from-requires c κs = search needs
 
+cast-sample-blocks : tie.Need-cast-sample-blocks
+cast-sample-blocks c = search needs
+
 sample-blocks-requires : tie.Need-sample-blocks-requires
 sample-blocks-requires c κs = search needs
 
 add-samples0 : tie.Need-add-samples0
 add-samples0 c = search needs
-
-cast-t9 : tie.Need-cast-t9
-cast-t9 c = search needs
 
 cast-t10 : tie.Need-cast-t10
 cast-t10 c = search needs
@@ -43,6 +43,9 @@ cast-t11 c = search needs
 
 cast-t12 : tie.Need-cast-t12
 cast-t12 c = search needs
+
+cast-t13 : tie.Need-cast-t13
+cast-t13 c = search needs
 
 returns : tie.Need-returns
 returns c = let whole : length (c .before .before .before .before .before .before .args .b .now) ≡ 512 * (c .before .before .before .before .before .before .args .blocks) = c .before .before .before .before .before .before .pre .0 in image-read (c .before .before .before .before .before .before .args .b .now) _ _ _ _ _ _ (c .before .before .before .before .word .ensures) (c .before .before .before .word2 .ensures) (omega arith) (c .before .before .zeros-from .ensures) (c .before .samples-from .ensures) (c .sample-blocks .ensures)
@@ -57,10 +60,11 @@ image-in-spec =
     zeros-from-requires
     cast-samples-from
     samples-from-requires
+    cast-sample-blocks
     sample-blocks-requires
     add-samples0
-    cast-t9
     cast-t10
     cast-t11
     cast-t12
+    cast-t13
     returns)

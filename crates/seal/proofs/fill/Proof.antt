@@ -6,29 +6,20 @@ use borrow.Author.Needs.{needs}
 use Rattle.seal.proofs.fill.Statement.{statement}
 use Rattle.seal.proofs.fill.Tie as tie
 
-add-zeros : tie.Need-add-zeros
-add-zeros c = search needs
+zeros-from-requires : tie.Need-zeros-from-requires
+zeros-from-requires c κs = search needs
 
-add-zeros-2 : tie.Need-add-zeros-2
-add-zeros-2 c = search needs
+samples-from-requires : tie.Need-samples-from-requires
+samples-from-requires c κs = search needs
 
-add-first : tie.Need-add-first
-add-first c = search needs
-
-add-first-2 : tie.Need-add-first-2
-add-first-2 c = search needs
-
-add-first-3 : tie.Need-add-first-3
-add-first-3 c = search needs
+sample-blocks-requires : tie.Need-sample-blocks-requires
+sample-blocks-requires c κs =
+    let start = c .before .before .before .before in
+    let f = few-marks (start .args .ps .now) (good-parents _ (start .pre .0) (start .pre .1 .1 .0)) in
+    search needs
 
 add-second : tie.Need-add-second
-add-second c = let f = few-marks (c .before .before .args .ps .now) (good-parents _ (c .before .before .pre .0) (c .before .before .pre .1 .1 .0)) in omega arith
-
-add-second-2 : tie.Need-add-second-2
-add-second-2 c = search needs
-
-add-second-3 : tie.Need-add-second-3
-add-second-3 c = search needs
+add-second c = search needs
 
 mul-clear : tie.Need-mul-clear
 mul-clear c = search needs
@@ -37,7 +28,13 @@ clear-requires : tie.Need-clear-requires
 clear-requires c κs = search needs
 
 mark-runs-requires : tie.Need-mark-runs-requires
-mark-runs-requires c κs = ready _ _ _ _ _ (c .before .before .before .before .before .before .before .pre .0) (c .before .before .before .before .before .before .before .pre .1 .0) (c .before .before .before .before .before .before .before .pre .1 .1 .0) (c .before .before .before .before .before .before .before .pre .1 .1 .1 .0) (c .before .before .before .before .before .before .before .pre .1 .1 .1 .1 .0) (c .before .before .before .clear .ensures) (c .before .before .before .before .before .before .before .pre .1 .1 .1 .1 .1)
+mark-runs-requires c κs =
+    let cleared = c .before .before .before in
+    let places = cleared .before .before in
+    let start = places .before .before .before .before .before in
+    let p = start .pre in
+    ready _ _ _ _ _ (p .0) (p .1 .0) (p .1 .1 .0) (p .1 .1 .1 .0) (p .1 .1 .1 .1 .0) (cleared .clear .ensures)
+    _ _ _ (places .before .before .zeros-from .ensures) (places .before .samples-from .ensures) (places .sample-blocks .ensures) (p .1 .1 .1 .1 .1)
 
 put-counts-requires : tie.Need-put-counts-requires
 put-counts-requires c κs = search needs
@@ -52,10 +49,16 @@ cast-put-header : tie.Need-cast-put-header
 cast-put-header c = search needs
 
 cast-put-header-2 : tie.Need-cast-put-header-2
-cast-put-header-2 c = let f = few-marks (c .before .before .before .before .before .before .before .before .before .before .before .before .before .before .before .before .before .before .before .args .ps .now) (good-parents _ (c .before .before .before .before .before .before .before .before .before .before .before .before .before .before .before .before .before .before .before .pre .0) (c .before .before .before .before .before .before .before .before .before .before .before .before .before .before .before .before .before .before .before .pre .1 .1 .0)) in omega arith
+cast-put-header-2 c =
+    let start = c .before .before .before .before .before .before .before .before .before .before .before .before .before .before .before .before .before .before .before .before .before .before in
+    let f = few-marks (start .args .ps .now) (good-parents _ (start .pre .0) (start .pre .1 .1 .0)) in
+    omega arith
 
 cast-put-header-3 : tie.Need-cast-put-header-3
-cast-put-header-3 c = let f = few-marks (c .before .before .before .before .before .before .before .before .before .before .before .before .before .before .before .before .before .before .before .args .ps .now) (good-parents _ (c .before .before .before .before .before .before .before .before .before .before .before .before .before .before .before .before .before .before .before .pre .0) (c .before .before .before .before .before .before .before .before .before .before .before .before .before .before .before .before .before .before .before .pre .1 .1 .0)) in omega arith
+cast-put-header-3 c =
+    let start = c .before .before .before .before .before .before .before .before .before .before .before .before .before .before .before .before .before .before .before .before .before .before in
+    let f = few-marks (start .args .ps .now) (good-parents _ (start .pre .0) (start .pre .1 .1 .0)) in
+    omega arith
 
 put-header-requires : tie.Need-put-header-requires
 put-header-requires c κs = search needs
@@ -64,20 +67,26 @@ same-length : tie.Need-same-length
 same-length c = search needs
 
 returns : tie.Need-returns
-returns c = all-prepared _ _ _ _ _ (c .before .before .before .before .before .before .before .before .before .before .before .before .before .before .before .before .before .before .before .before .before .before .pre .0) (c .before .before .before .before .before .before .before .before .before .before .before .before .before .before .before .before .before .before .before .before .before .before .pre .1 .0) (c .before .before .before .before .before .before .before .before .before .before .before .before .before .before .before .before .before .before .before .before .before .before .pre .1 .1 .0) (c .before .before .before .before .before .before .before .before .before .before .before .before .before .before .before .before .before .before .before .before .before .before .pre .1 .1 .1 .0) (c .before .before .before .before .before .before .before .before .before .before .before .before .before .before .before .before .before .before .before .before .before .before .pre .1 .1 .1 .1 .0) (c .before .before .before .before .before .before .before .before .before .before .before .before .before .before .before .before .before .before .clear .ensures) _ _ _ _ (omega arith) (c .before .before .before .before .before .before .before .before .before .before .before .before .before .before .mark-runs .ensures) (c .before .before .before .before .before .before .before .before .before .before .put-counts .ensures) (c .before .before .before .before .before .before .put-counts2 .ensures) (c .before .before .put-header .ensures)
+returns c =
+    let headed = c .before .before in
+    let second = headed .before .before .before .before in
+    let first = second .before .before .before .before in
+    let run = first .before .before .before .before in
+    let cleared = run .before .before .before .before in
+    let places = cleared .before .before in
+    let p = places .before .before .before .before .before .pre in
+    all-prepared _ _ _ _ _ (p .0) (p .1 .0) (p .1 .1 .0) (p .1 .1 .1 .0) (p .1 .1 .1 .1 .0) (cleared .clear .ensures)
+    _ _ _ _ _ (places .before .before .zeros-from .ensures) (omega arith)
+    (run .mark-runs .ensures) (first .put-counts .ensures) (second .put-counts2 .ensures) (headed .put-header .ensures)
 
 pub fill-spec : {M : Type 1} → statement M
 fill-spec =
     tie.close
     (tie.spec
-    add-zeros
-    add-zeros-2
-    add-first
-    add-first-2
-    add-first-3
+    zeros-from-requires
+    samples-from-requires
+    sample-blocks-requires
     add-second
-    add-second-2
-    add-second-3
     mul-clear
     clear-requires
     mark-runs-requires
