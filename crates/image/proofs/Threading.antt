@@ -1,7 +1,7 @@
 -- The parents of two strings, run by run, are those of the string woven from them; and what the loop that writes them keeps.
 use mathlib.Core.Path.{_≡_, refl, sym, ap, ap₂, _∙_, subst}
 use mathlib.Core.List.{List, [], _∷_, _++_, append-nil}
-use Prim.Native.Nat.{ℕ, zero, suc, _+_, _*_, _/_, _%_, _≤_, _<_}
+use Prim.Native.Nat.{ℕ, zero, suc, _+_, _≤_, _<_}
 use native.Mathlib.Nat.{le-refl}
 use native.Mathlib.Numerals.{add-one}
 use native.Mathlib.Omega.{arith}
@@ -11,8 +11,8 @@ use Rattle.meaning.specs.Strings.{Bit, O, I, zerosBefore, parentsOf, weave, wov
 use Rattle.meaning.specs.Bytes.{bitAt, value}
 use Rattle.meaning.specs.Image.{stringIn}
 use Rattle.meaning.specs.Answers.{written}
-use Rattle.theory.specs.Layout.{Runs}
-use Rattle.theory.proofs.TreeImages.{bitPlace, stringIn-at}
+use Rattle.theory.specs.Layout.{Runs, bitPlace}
+use Rattle.theory.proofs.TreeImages.{stringIn-at}
 use Rattle.bits.proofs.Values.{is-O, is-I}
 use Rattle.image.specs.Threads.{upToOne, threads}
 
@@ -199,12 +199,12 @@ module _ (r : List Bit) (x : ℕ) (l : x < length r) where
 
 -- ---- a bit of a string in its blocks
 
-module _ (bytes : List ℕ) (first n i : ℕ) (l : i < n) (x : ℕ) (e : x ≡ value (bitAt bytes (8 * (512 * (first + i / 4000) + 4) + i % 4000))) where
-  there : getD (stringIn bytes first 0 n) i O ≡ bitAt bytes (8 * (512 * (first + i / 4000) + 4) + i % 4000)
+module _ (bytes : List ℕ) (first n i : ℕ) (l : i < n) (x : ℕ) (e : x ≡ value (bitAt bytes (bitPlace first i))) where
+  there : getD (stringIn bytes first 0 n) i O ≡ bitAt bytes (bitPlace first i)
   there = stringIn-at bytes first 0 n i l ∙ ap (λ k. bitAt bytes (bitPlace first k)) (let q : 0 + i ≡ i = omega arith in q)
 
   pub bit-one : (x ≡ 0 → ⊥) → getD (stringIn bytes first 0 n) i O ≡ I
-  bit-one h = there ∙ is-I (bitAt bytes (8 * (512 * (first + i / 4000) + 4) + i % 4000)) x e h
+  bit-one h = there ∙ is-I (bitAt bytes (bitPlace first i)) x e h
 
   pub bit-zero : x ≡ 0 → getD (stringIn bytes first 0 n) i O ≡ O
-  bit-zero h = there ∙ is-O (bitAt bytes (8 * (512 * (first + i / 4000) + 4) + i % 4000)) x e h
+  bit-zero h = there ∙ is-O (bitAt bytes (bitPlace first i)) x e h

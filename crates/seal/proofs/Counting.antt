@@ -10,11 +10,10 @@ use lib.Seq.{drop-cons, set-at, take-suc}
 use Rattle.meaning.specs.Strings.{Bit, O, I, ones}
 use Rattle.meaning.specs.Bytes.{value, bitAt}
 use Rattle.meaning.specs.Image.{stringBlocks, stringIn}
-use Rattle.theory.specs.Layout.{wordAt}
+use Rattle.theory.specs.Layout.{wordAt, bitPlace}
 use Rattle.theory.proofs.Odd.{ones-append}
 use Rattle.theory.proofs.Payloads.{ones-le}
 use Rattle.theory.proofs.TreeImages.{length-stringIn, stringIn-at}
-use Rattle.seal.specs.Filled.{placeOf}
 use Rattle.seal.specs.Passes.{Counted, countedAt}
 use Rattle.seal.proofs.Placing.{bit-agree, word-agree, put-length, put-word, put-byte, counted-here, counted-not}
 
@@ -86,12 +85,12 @@ module _ (old out : List ℕ) (from n c i : ℕ) (k : Counting old out from n c 
     new-apart q h =
         new-byte q (λ e a b. let g : 4 ≤ q % 512 = h (omega arith) (omega arith) in omega arith) ∙ k .apart q h
 
-    new-bit : bitAt new (placeOf from i) ≡ getD (stringIn old from 0 n) i O
+    new-bit : bitAt new (bitPlace from i) ≡ getD (stringIn old from 0 n) i O
     new-bit =
-        bit-agree new old (placeOf from i) (new-apart (placeOf from i / 8) (λ a b. omega arith))
-        ∙ ap (λ j. bitAt old (placeOf from j)) (let e : i ≡ 0 + i = omega arith in e) ∙ sym (stringIn-at old from 0 n i l)
+        bit-agree new old (bitPlace from i) (new-apart (bitPlace from i / 8) (λ a b. omega arith))
+        ∙ ap (λ j. bitAt old (bitPlace from j)) (let e : i ≡ 0 + i = omega arith in e) ∙ sym (stringIn-at old from 0 n i l)
 
-    new-sum : c + value (bitAt new (placeOf from i)) ≡ ones (take (i + 1) (stringIn old from 0 n))
+    new-sum : c + value (bitAt new (bitPlace from i)) ≡ ones (take (i + 1) (stringIn old from 0 n))
     new-sum =
         let r = stringIn old from 0 n in
         let b = getD r i O in
@@ -120,10 +119,10 @@ module _ (old out : List ℕ) (from n c i : ℕ) (k : Counting old out from n c 
             ∙ put-word out (512 * (from + i / 4000)) c fits (omega (arith, counting-few))
             ∙ k .sum ∙ ap (λ m. ones (take m (stringIn old from 0 n))) (sym e)
 
-    pub counting-next : (s : List ℕ) (x : ℕ) → s ≡ countedAt out from i c → x ≡ value (bitAt s (placeOf from i)) → Counting old s from n (c + x) (i + 1)
+    pub counting-next : (s : List ℕ) (x : ℕ) → s ≡ countedAt out from i c → x ≡ value (bitAt s (bitPlace from i)) → Counting old s from n (c + x) (i + 1)
     unfolding new
     counting-next s x e f =
-        let g : x ≡ value (bitAt new (placeOf from i)) = f ∙ ap (λ t. value (bitAt t (placeOf from i))) e in
+        let g : x ≡ value (bitAt new (bitPlace from i)) = f ∙ ap (λ t. value (bitAt t (bitPlace from i))) e in
         subst (λ t. Counting old t from n (c + x) (i + 1)) (sym e) (record {
           left = omega arith;
           sum = ap (λ y. c + y) g ∙ new-sum;

@@ -9,7 +9,7 @@ use Rattle.meaning.specs.Strings.{Bit, O}
 use Rattle.meaning.specs.Bytes.{bitAt}
 use Rattle.meaning.specs.Blocks.{wordBytes, words, sums, sumStart, padded, block, sealed}
 use Rattle.meaning.specs.Image.{stringBlocks, samples, sampleBlocks, stringIn, imageOfParts}
-use Rattle.theory.specs.Layout.{AreBytes, wordAt, stringWord, sampleWord, startR0, startS1, startS0, total}
+use Rattle.theory.specs.Layout.{AreBytes, wordAt, bitPlace, samplePlace, stringWord, sampleWord, startR0, startS1, startS0, total}
 use Rattle.theory.specs.Stages.{Kept}
 use Rattle.theory.proofs.Digits.{append-bytes, words-bytes, take-bytes, drop-bytes, wordAt-take, wordAt-drop}
 use Rattle.theory.proofs.Sealing.{length-sealed, sealed-word, sealed-checks, padded-bytes}
@@ -18,7 +18,7 @@ use Rattle.theory.proofs.TreeImages.{length-stringIn, stringIn-at}
 use Rattle.theory.proofs.Stages.{word-is}
 use Rattle.blocks.specs.Sealed.{payloadsIn}
 use Rattle.blocks.proofs.Laws.{length-payloadsIn, payloadsIn-at}
-use Rattle.seal.specs.Filled.{placeOf, samplePlace, Part, Counts, Filled}
+use Rattle.seal.specs.Filled.{Part, Counts, Filled}
 
 -- ---- sealed bytes are bytes
 
@@ -50,7 +50,7 @@ part-string bytes from at S r p =
     let l = length-stringIn bytes from 0 (length r) in
     ext-getD O (stringIn bytes from 0 (length r)) r l
     (λ i h. let g : i < length r = omega arith in
-    stringIn-at bytes from 0 (length r) i g ∙ ap (λ k. bitAt bytes (placeOf from k)) (let e : 0 + i ≡ i = omega arith in e) ∙ p .bits i (omega arith))
+    stringIn-at bytes from 0 (length r) i g ∙ ap (λ k. bitAt bytes (bitPlace from k)) (let e : 0 + i ≡ i = omega arith in e) ∙ p .bits i (omega arith))
 
 string-words : (bytes : List ℕ) (from at S : ℕ) (r : List Bit) → AreBytes bytes → 512 * (from + stringBlocks (length r)) ≤ length bytes
     → Part bytes from (stringBlocks (length r)) at S r → Counts bytes from r

@@ -10,7 +10,7 @@ use lib.Seq.{getD-append-add, getD-at}
 use Rattle.meaning.specs.Strings.{Bit, O, I, ones}
 use Rattle.meaning.specs.Bytes.{bitAt}
 use Rattle.meaning.specs.Image.{samples}
-use Rattle.theory.specs.Layout.{wordAt}
+use Rattle.theory.specs.Layout.{wordAt, bitPlace, samplePlace}
 use Rattle.theory.specs.Rank.{position}
 use Rattle.theory.proofs.Odd.{ones-append}
 use Rattle.theory.proofs.Forms.{position-split}
@@ -18,7 +18,7 @@ use Rattle.theory.proofs.Payloads.{length-samples, sample-at}
 use Rattle.bits.specs.Appended.{lit}
 use Rattle.bits.proofs.Appending.{lit-length, lit-same, lit-other}
 use Rattle.bits.proofs.Placing.{position-front}
-use Rattle.seal.specs.Filled.{placeOf, samplePlace, Part}
+use Rattle.seal.specs.Filled.{Part}
 use Rattle.seal.specs.Passes.{marked}
 use Rattle.seal.proofs.Walking.{ones-run}
 use Rattle.seal.proofs.Placing.{bit-agree, word-agree, bit-zero, word-zero, put-word, lit-byte, marked-sample, marked-set}
@@ -83,7 +83,7 @@ pub part-blank : (bytes : List ℕ) (from B at S : ℕ)
     → ((q : ℕ) → 512 * at ≤ q → q < 512 * (at + S) → getD bytes q 0 ≡ 0)
     → Part bytes from B at S []
 part-blank bytes from B at S h g = record {
-  bits = λ i l. bit-zero bytes (placeOf from i) (h (placeOf from i / 8) (omega arith) (omega arith));
+  bits = λ i l. bit-zero bytes (bitPlace from i) (h (bitPlace from i / 8) (omega arith) (omega arith));
   words = λ w l. word-zero bytes (samplePlace at w) (λ q a b. g q (omega arith) (omega arith))
       ∙ sym (List·getD-eq-default (samples []) 0 (omega (arith, length-samples [])));
 }
@@ -94,7 +94,7 @@ module _ (bytes : List ℕ) (from B at S : ℕ) (r : List Bit) (p : Part bytes f
       → ((q : ℕ) → 512 * at ≤ q → q < 512 * (at + S) → getD new q 0 ≡ getD bytes q 0)
       → Part new from B at S r
   part-agree new h g = record {
-    bits = λ i l. bit-agree new bytes (placeOf from i) (h (placeOf from i / 8) (omega arith) (omega arith) (omega arith)) ∙ p .bits i l;
+    bits = λ i l. bit-agree new bytes (bitPlace from i) (h (bitPlace from i / 8) (omega arith) (omega arith) (omega arith)) ∙ p .bits i l;
     words = λ w l. word-agree new bytes (samplePlace at w) (λ q a b. g q (omega arith) (omega arith)) ∙ p .words w l;
   }
 
@@ -116,16 +116,16 @@ module _ (bytes : List ℕ) (from B at S : ℕ) (r : List Bit) (p : Part bytes f
     fits = omega arith
 
     -- a bit of the string's blocks is as the set bit left it
-    bit-left : (i : ℕ) → i < 4000 * B → bitAt (marked bytes from at x k) (placeOf from i) ≡ bitAt (lit bytes (placeOf from x)) (placeOf from i)
+    bit-left : (i : ℕ) → i < 4000 * B → bitAt (marked bytes from at x k) (bitPlace from i) ≡ bitAt (lit bytes (bitPlace from x)) (bitPlace from i)
     bit-left i l =
-        bit-agree (marked bytes from at x k) (lit bytes (placeOf from x)) (placeOf from i)
-        (marked-set bytes from at x k fits (placeOf from i / 8) (λ e h g. omega arith))
+        bit-agree (marked bytes from at x k) (lit bytes (bitPlace from x)) (bitPlace from i)
+        (marked-set bytes from at x k fits (bitPlace from i / 8) (λ e h g. omega arith))
 
-    bit-is : (i : ℕ) → i < 4000 * B → bitAt (marked bytes from at x k) (placeOf from i) ≡ getD (r ++ runOf d) i O
+    bit-is : (i : ℕ) → i < 4000 * B → bitAt (marked bytes from at x k) (bitPlace from i) ≡ getD (r ++ runOf d) i O
     bit-is i l = elim (ℕ-discrete i x) [
-      | yes e ↦ bit-left i l ∙ ap (λ j. bitAt (lit bytes (placeOf from x)) (placeOf from j)) e
-          ∙ lit-same bytes (placeOf from x) (omega arith) ∙ sym (ap (λ j. getD (r ++ runOf d) j O) (e ∙ ex) ∙ run-new r d)
-      | no n ↦ bit-left i l ∙ lit-other bytes (placeOf from x) (placeOf from i) (λ e. n (omega arith))
+      | yes e ↦ bit-left i l ∙ ap (λ j. bitAt (lit bytes (bitPlace from x)) (bitPlace from j)) e
+          ∙ lit-same bytes (bitPlace from x) (omega arith) ∙ sym (ap (λ j. getD (r ++ runOf d) j O) (e ∙ ex) ∙ run-new r d)
+      | no n ↦ bit-left i l ∙ lit-other bytes (bitPlace from x) (bitPlace from i) (λ e. n (omega arith))
           ∙ p .bits i l ∙ sym (run-old r d i (λ e. n (e ∙ sym ex)))
     ]
 
@@ -136,8 +136,8 @@ module _ (bytes : List ℕ) (from B at S : ℕ) (r : List Bit) (p : Part bytes f
         (λ q a b. marked-set bytes from at x k fits q (λ e h g. n (let v : w ≡ k / 64 = omega arith in omega arith))
         ∙ lit-byte-away q a)
       where
-        lit-byte-away : (q : ℕ) → samplePlace at w ≤ q → getD (lit bytes (placeOf from x)) q 0 ≡ getD bytes q 0
-        lit-byte-away q a = lit-byte bytes (placeOf from x) q (λ e. omega arith)
+        lit-byte-away : (q : ℕ) → samplePlace at w ≤ q → getD (lit bytes (bitPlace from x)) q 0 ≡ getD bytes q 0
+        lit-byte-away q a = lit-byte bytes (bitPlace from x) q (λ e. omega arith)
 
     word-is : (w : ℕ) → w < 126 * S → wordAt (marked bytes from at x k) (samplePlace at w) ≡ getD (samples (r ++ runOf d)) w 0
     word-is w l = elim (ℕ-discrete (64 * w) k) [
@@ -161,10 +161,10 @@ module _ (bytes : List ℕ) (from B at S : ℕ) (r : List Bit) (p : Part bytes f
         here e =
             let v : k / 64 ≡ w = omega arith in
             let z : k % 64 ≡ 0 = omega arith in
-            let set = lit bytes (placeOf from x) in
+            let set = lit bytes (bitPlace from x) in
             let q = samplePlace at (k / 64) in
             ap₂ wordAt (marked-sample bytes from at x k z) (ap (samplePlace at) (sym v))
-            ∙ put-word set q (x + 1) (omega (arith, lit-length bytes (placeOf from x))) (omega arith)
+            ∙ put-word set q (x + 1) (omega (arith, lit-length bytes (bitPlace from x))) (omega arith)
             ∙ ap (λ n. n + 1) ex ∙ sym (samples-new r d w (e ∙ sym ek))
 
     pub part-marked : Part (marked bytes from at x k) from B at S (r ++ runOf d)

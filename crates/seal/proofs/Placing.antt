@@ -14,12 +14,11 @@ use lib.Seq.{length-take-le, getD-take, getD-drop, getD-append-add, getD-set-oth
 use Rattle.meaning.specs.Strings.{O}
 use Rattle.meaning.specs.Bytes.{bit, bitAt}
 use Rattle.meaning.specs.Blocks.{le32}
-use Rattle.theory.specs.Layout.{wordAt}
+use Rattle.theory.specs.Layout.{wordAt, bitPlace, samplePlace}
 use Rattle.theory.proofs.Digits.{wordAt-append, le32-first}
 use Rattle.bits.specs.Appended.{lit}
 use Rattle.bits.proofs.Appending.{lit-length}
 use Rattle.blocks.specs.Sealed.{withWord}
-use Rattle.seal.specs.Filled.{placeOf, samplePlace}
 use Rattle.seal.specs.Passes.{marked, countedAt, headed}
 
 -- ---- the same bytes have the same bits and words
@@ -89,38 +88,38 @@ lit-byte bytes p q d = getD-set-other bytes (p / 8) q (bitOr (getD bytes (p / 8)
 -- ---- a one marked
 
 module _ (bytes : List ℕ) (from at x k : ℕ) where
-  pub marked-sample : k % 64 ≡ 0 → marked bytes from at x k ≡ withWord (lit bytes (placeOf from x)) (samplePlace at (k / 64)) (x + 1)
+  pub marked-sample : k % 64 ≡ 0 → marked bytes from at x k ≡ withWord (lit bytes (bitPlace from x)) (samplePlace at (k / 64)) (x + 1)
   unfolding marked
   marked-sample e =
-      let set = lit bytes (placeOf from x) in ap (λ b. cond b (withWord set (samplePlace at (k / 64)) (x + 1)) set) (eq-eqb (k % 64) 0 e)
+      let set = lit bytes (bitPlace from x) in ap (λ b. cond b (withWord set (samplePlace at (k / 64)) (x + 1)) set) (eq-eqb (k % 64) 0 e)
 
-  pub marked-plain : (k % 64 ≡ 0 → ⊥) → marked bytes from at x k ≡ lit bytes (placeOf from x)
+  pub marked-plain : (k % 64 ≡ 0 → ⊥) → marked bytes from at x k ≡ lit bytes (bitPlace from x)
   unfolding marked
   marked-plain d =
-      let set = lit bytes (placeOf from x) in ap (λ b. cond b (withWord set (samplePlace at (k / 64)) (x + 1)) set) (ne-eqb (k % 64) 0 d)
+      let set = lit bytes (bitPlace from x) in ap (λ b. cond b (withWord set (samplePlace at (k / 64)) (x + 1)) set) (ne-eqb (k % 64) 0 d)
 
   module _ (room : 512 * (at + k / 64 / 126 + 1) ≤ length bytes) where
-    fits : samplePlace at (k / 64) + 4 ≤ length (lit bytes (placeOf from x))
-    fits = omega (arith, lit-length bytes (placeOf from x))
+    fits : samplePlace at (k / 64) + 4 ≤ length (lit bytes (bitPlace from x))
+    fits = omega (arith, lit-length bytes (bitPlace from x))
 
     pub marked-length : length (marked bytes from at x k) ≡ length bytes
     marked-length = elim (ℕ-discrete (k % 64) 0) [
-      | yes e ↦ ap length (marked-sample e) ∙ put-length (lit bytes (placeOf from x)) (samplePlace at (k / 64)) (x + 1) fits ∙ lit-length bytes (placeOf from x)
-      | no d ↦ ap length (marked-plain d) ∙ lit-length bytes (placeOf from x)
+      | yes e ↦ ap length (marked-sample e) ∙ put-length (lit bytes (bitPlace from x)) (samplePlace at (k / 64)) (x + 1) fits ∙ lit-length bytes (bitPlace from x)
+      | no d ↦ ap length (marked-plain d) ∙ lit-length bytes (bitPlace from x)
     ]
 
     -- a byte outside the sample's word is as the bit left it
     pub marked-set : (q : ℕ) → (k % 64 ≡ 0 → samplePlace at (k / 64) ≤ q → q < samplePlace at (k / 64) + 4 → ⊥)
-        → getD (marked bytes from at x k) q 0 ≡ getD (lit bytes (placeOf from x)) q 0
+        → getD (marked bytes from at x k) q 0 ≡ getD (lit bytes (bitPlace from x)) q 0
     marked-set q d = elim (ℕ-discrete (k % 64) 0) [
-      | yes e ↦ ap (λ s. getD s q 0) (marked-sample e) ∙ put-byte (lit bytes (placeOf from x)) (samplePlace at (k / 64)) (x + 1) fits q (d e)
+      | yes e ↦ ap (λ s. getD s q 0) (marked-sample e) ∙ put-byte (lit bytes (bitPlace from x)) (samplePlace at (k / 64)) (x + 1) fits q (d e)
       | no n ↦ ap (λ s. getD s q 0) (marked-plain n)
     ]
 
     -- other blocks stay
     pub marked-byte : (q : ℕ) → (q / 512 ≡ from + x / 4000 → ⊥) → (q / 512 ≡ at + k / 64 / 126 → ⊥) → getD (marked bytes from at x k) q 0 ≡ getD bytes q 0
     marked-byte q n m =
-        marked-set q (λ e h g. m (omega arith)) ∙ lit-byte bytes (placeOf from x) q (λ e. n (omega arith))
+        marked-set q (λ e h g. m (omega arith)) ∙ lit-byte bytes (bitPlace from x) q (λ e. n (omega arith))
 
 -- ---- a count put
 

@@ -1,24 +1,16 @@
 -- What must stand in the payloads of a lent image before its blocks are sealed, by words and bits.
 use mathlib.Core.Path.{_≡_}
 use mathlib.Core.List.{List, [], _∷_}
-use Prim.Native.Nat.{ℕ, _+_, _*_, _/_, _%_, _<_}
+use Prim.Native.Nat.{ℕ, _+_, _*_, _<_}
 use lib.ListN.{length, getD, take}
 use Rattle.meaning.specs.Strings.{Bit, O, ones}
 use Rattle.meaning.specs.Bytes.{bitAt}
 use Rattle.meaning.specs.Image.{stringBlocks, samples, sampleBlocks}
-use Rattle.theory.specs.Layout.{wordAt, startR0, startS1, startS0, total}
-
--- where bit i of a string stands whose blocks begin at block `from`
-abbrev pub placeOf : ℕ → ℕ → ℕ
-placeOf from i = 8 * (512 * (from + i / 4000) + 4) + i % 4000
-
--- where sample w stands of samples whose blocks begin at block `from`
-abbrev pub samplePlace : ℕ → ℕ → ℕ
-samplePlace from w = 512 * (from + w / 126) + 4 * (w % 126)
+use Rattle.theory.specs.Layout.{wordAt, bitPlace, samplePlace, startR0, startS1, startS0, total}
 
 -- the bits of r in B blocks from block `from` on, and its samples in S blocks from block `at` on; after the last of each there are zeros
 pub record Part (bytes : List ℕ) (from B at S : ℕ) (r : List Bit) : Type 0 where
-  pub bits : (i : ℕ) → i < 4000 * B → bitAt bytes (placeOf from i) ≡ getD r i O
+  pub bits : (i : ℕ) → i < 4000 * B → bitAt bytes (bitPlace from i) ≡ getD r i O
   pub words : (w : ℕ) → w < 126 * S → wordAt bytes (samplePlace at w) ≡ getD (samples r) w 0
 
 -- the numbers of ones in earlier blocks, for r in blocks from block `from` on

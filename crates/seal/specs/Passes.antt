@@ -8,17 +8,17 @@ use lib.ListN.{length, getD, take}
 use Rattle.meaning.specs.Parents.{badEntry}
 use Rattle.meaning.specs.Strings.{ones, R1, R0, stringOf}
 use Rattle.meaning.specs.Image.{stringBlocks, stringIn}
-use Rattle.theory.specs.Layout.{wordAt}
+use Rattle.theory.specs.Layout.{wordAt, bitPlace, samplePlace}
 use Rattle.theory.specs.Stages.{blocksOfSamples, zerosFrom, samplesFrom, blocksNeeded}
 use Rattle.bits.specs.Appended.{lit}
 use Rattle.blocks.specs.Sealed.{withWord}
-use Rattle.seal.specs.Filled.{placeOf, samplePlace, Part, Filled}
+use Rattle.seal.specs.Filled.{Part, Filled}
 
 -- ---- one number k, from 0, of a string, after x bits: its bit, and of each 64 ones the first one's position
 
 unfoldable pub marked : List ℕ → ℕ → ℕ → ℕ → ℕ → List ℕ
 marked bytes from at x k =
-    let set = lit bytes (placeOf from x) in cond (eqb (k % 64) 0) (withWord set (samplePlace at (k / 64)) (x + 1)) set
+    let set = lit bytes (bitPlace from x) in cond (eqb (k % 64) 0) (withWord set (samplePlace at (k / 64)) (x + 1)) set
 
 -- ---- the pass over the list
 

@@ -4,13 +4,13 @@ use mathlib.Core.List.{List}
 use Prim.Native.Nat.{ℕ, _+_, _*_, _/_, _%_, _≤_, _<_}
 use Rattle.meaning.specs.Strings.{I}
 use Rattle.meaning.specs.Bytes.{bitAt}
-use Rattle.theory.specs.Layout.{wordAt}
+use Rattle.theory.specs.Layout.{wordAt, bitPlace, samplePlace}
 use Rattle.theory.specs.Stages.{blocksOfSamples}
 use Rattle.stages.specs.Steps.{onesTo}
 
 -- the word of sample number q, from 0, where the samples' blocks begin at block `from`
 abbrev pub sampleIn : List ℕ → ℕ → ℕ → ℕ
-sampleIn bytes from q = wordAt bytes (512 * (from + q / 126) + 4 * (q % 126))
+sampleIn bytes from q = wordAt bytes (samplePlace from q)
 
 -- a one that k others come before has a sample, its position from 1, if 64 divides k
 abbrev pub SampledHere : List ℕ → ℕ → ℕ → ℕ → Type 0
@@ -18,8 +18,7 @@ SampledHere bytes from k place = k % 64 ≡ 0 → sampleIn bytes from (k / 64) �
 
 -- bit p, if it is one, of the string whose blocks begin at block `first`
 abbrev pub SampledAt : List ℕ → ℕ → ℕ → ℕ → Type 0
-SampledAt bytes from first p =
-    bitAt bytes (8 * (512 * (first + p / 4000) + 4) + p % 4000) ≡ I → SampledHere bytes from (onesTo bytes first p) (p + 1)
+SampledAt bytes from first p = bitAt bytes (bitPlace first p) ≡ I → SampledHere bytes from (onesTo bytes first p) (p + 1)
 
 -- the bits from a to before b
 abbrev pub SampledWithin : List ℕ → ℕ → ℕ → ℕ → ℕ → Type 0

@@ -12,14 +12,14 @@ use Rattle.meaning.specs.Strings.{Bit, O, ones, lbs, R1, R0, parentsOf, stringO
 use Rattle.meaning.specs.Bytes.{bit, bitAt, bytesOf}
 use Rattle.meaning.specs.Blocks.{blocksIn, wrongBlock}
 use Rattle.meaning.specs.Image.{stringBlocks, imageOfParts, image, stringIn, parentsIn, isImage}
-use Rattle.theory.specs.Layout.{Runs, AreBytes, wordAt, bitWord, stringWord, startR0, startS1, startS0, total, Laid}
+use Rattle.theory.specs.Layout.{Runs, AreBytes, wordAt, bitPlace, bitWord, stringWord, startR0, startS1, startS0, total, Laid}
 use Rattle.theory.specs.Stages.{nodesOf, marksOf, blocksOfSamples, zerosFrom, samplesFrom, blocksNeeded, readR1, readR0, Header, Ended, InStep, Kept, Sampled, Stages}
 use Rattle.theory.proofs.Digits.{same-bits, bytesOf-lt, bytesOf-bit, bytesOf-word, length-bytesOf, take-bytes, drop-bytes, wordAt-take, wordAt-drop}
 use Rattle.theory.proofs.Forms.{length-parents, length-R1, length-R0, string-parents, tree-runs, tree-rule, runs-ones, marks-count}
 use Rattle.theory.proofs.Payloads.{ones-le, length-samples}
 use Rattle.theory.proofs.Images.{laid}
 use Rattle.theory.proofs.InStep.{runs-ended, one-missing, in-step}
-use Rattle.theory.proofs.TreeImages.{header-at, length-stringIn, stringIn-at, bitPlace, R1-bit, R0-bit, R1-in, R0-in, image-parts, parents-in, is-image, image-laid}
+use Rattle.theory.proofs.TreeImages.{header-at, length-stringIn, stringIn-at, R1-bit, R0-bit, R1-in, R0-in, image-parts, parents-in, is-image, image-laid}
 
 -- ---- every image passes
 

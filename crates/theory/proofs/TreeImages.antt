@@ -16,6 +16,7 @@ use Rattle.meaning.specs.Bytes.{bit, bitAt, bytesOf}
 use Rattle.meaning.specs.Blocks.{le32, sealed, same, blocksIn, wrongBlock}
 use Rattle.meaning.specs.Image.{stringBlocks, imageOfParts, imageOfString, image, headerWord, stringIn, parentsIn, isTree, isImage}
 use Rattle.theory.specs.Layout.{Runs, AreBytes, wordAt, startR0, total, Laid}
+pub use Rattle.theory.specs.Layout.{bitPlace}
 use Rattle.theory.proofs.Navigate.{parents-bits}
 use Rattle.theory.proofs.Parents.{are-parents, parents-are, parents-injective}
 use Rattle.theory.proofs.Lowest.{badEntry-is, parents-badEntry}
@@ -36,10 +37,6 @@ pub length-stringIn : (bytes : List ℕ) (b i n : ℕ) → length (stringIn byte
 unfolding stringIn
 length-stringIn bytes b i zero = refl
 length-stringIn bytes b i (suc n) = ap suc (length-stringIn bytes b (suc i) n)
-
--- where bit i of the string whose blocks begin at block b stands
-abbrev pub bitPlace : ℕ → ℕ → ℕ
-bitPlace b i = 8 * (512 * (b + i / 4000) + 4) + i % 4000
 
 pub stringIn-at : (bytes : List ℕ) (b i n k : ℕ) → k < n → getD (stringIn bytes b i n) k O ≡ bitAt bytes (bitPlace b (i + k))
 unfolding stringIn

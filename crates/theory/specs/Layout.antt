@@ -1,7 +1,7 @@
 -- The image word by word (document 01, "Image"): what each word must be for two strings to give these bytes.
 use mathlib.Core.Path.{_≡_}
 use mathlib.Core.List.{List, [], _∷_}
-use Prim.Native.Nat.{ℕ, zero, suc, _+_, _*_, _<_}
+use Prim.Native.Nat.{ℕ, zero, suc, _+_, _*_, _/_, _%_, _<_}
 use lib.ListN.{length, getD, take, drop}
 use Rattle.meaning.specs.Strings.{Bit, O, I, ones}
 use Rattle.meaning.specs.Bytes.{number}
@@ -22,6 +22,14 @@ AreBytes bytes = (i : ℕ) → i < length bytes → getD bytes i 0 < 256
 -- the word at byte p, little-endian
 unfoldable pub wordAt : List ℕ → ℕ → ℕ
 wordAt bytes p = getD bytes p 0 + 256 * getD bytes (p + 1) 0 + 65536 * getD bytes (p + 2) 0 + 16777216 * getD bytes (p + 3) 0
+
+-- where bit i of a string stands whose blocks begin at block `from`
+abbrev pub bitPlace : ℕ → ℕ → ℕ
+bitPlace from i = 8 * (512 * (from + i / 4000) + 4) + i % 4000
+
+-- where sample number w, from 0, stands of samples whose blocks begin at block `from`
+abbrev pub samplePlace : ℕ → ℕ → ℕ
+samplePlace from w = 512 * (from + w / 126) + 4 * (w % 126)
 
 -- the word of the first 32 bits: four bytes, each most significant bit first
 unfoldable pub bitWord : List Bit → ℕ

@@ -1,13 +1,13 @@
 -- The stages of the check of an image whose blocks all check: what each looks at (document 01, "Image", and code 7).
 use mathlib.Core.Path.{_≡_}
 use mathlib.Core.List.{List}
-use Prim.Native.Nat.{ℕ, _+_, _-_, _*_, _/_, _%_, _≤_, _<_}
+use Prim.Native.Nat.{ℕ, _+_, _-_, _*_, _/_, _≤_, _<_}
 use lib.ListN.{length, getD, take}
 use Rattle.meaning.specs.Strings.{Bit, O, I, ones}
 use Rattle.meaning.specs.Bytes.{bitAt}
 use Rattle.meaning.specs.Blocks.{blocksIn}
 use Rattle.meaning.specs.Image.{stringBlocks, stringIn}
-use Rattle.theory.specs.Layout.{wordAt, sampleWord}
+use Rattle.theory.specs.Layout.{wordAt, bitPlace, sampleWord}
 
 -- n and m, as the header has them
 abbrev pub nodesOf : List ℕ → ℕ
@@ -61,8 +61,7 @@ pub record InStep (a b : List Bit) : Type 0 where
 -- the blocks of a string r, from block `from` on: the count of earlier ones, and zeros after the last bit
 pub record Kept (bytes : List ℕ) (from : ℕ) (r : List Bit) : Type 0 where
   pub counts : (j : ℕ) → j < stringBlocks (length r) → wordAt bytes (512 * (from + j)) ≡ ones (take (4000 * j) r)
-  pub unused : (i : ℕ) → length r ≤ i → i < 4000 * stringBlocks (length r)
-      → bitAt bytes (8 * (512 * (from + i / 4000) + 4) + i % 4000) ≡ O
+  pub unused : (i : ℕ) → length r ≤ i → i < 4000 * stringBlocks (length r) → bitAt bytes (bitPlace from i) ≡ O
 
 -- the samples of a string with m ones, from block `from` on; zeros after the last
 abbrev pub Sampled : List ℕ → ℕ → ℕ → List Bit → Type 0

@@ -1,6 +1,6 @@
 -- `seal::mark` meets its contract.
+use Rattle.theory.specs.Layout.{samplePlace}
 use Rattle.seal.proofs.Placing.{marked-sample, marked-plain}
-use Rattle.seal.specs.Filled.{samplePlace}
 use Rattle.blocks.specs.Sealed.{withWord}
 use Prim.Native.Nat.{_+_, _/_}
 use mathlib.Core.Path.{sym, ap, _∙_}
