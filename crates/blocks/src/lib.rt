@@ -4,6 +4,7 @@ ghost use mathlib.Core.List.{_++_};
 ghost use Prim.Native.Nat.{_+_, _*_, _<_, _≤_};
 ghost use lib.ListN.{take, drop};
 ghost use Rattle.meaning.specs.Blocks.{sums, words, sealed, wrongBlock};
+ghost use Rattle.meaning.specs.Image.{stringBlocks};
 ghost use Rattle.theory.specs.Layout.{wordAt};
 ghost use Rattle.theory.specs.Stages.{blocksNeeded, blocksOfSamples, samplesFrom, zerosFrom};
 ghost use Rattle.blocks.specs.Sealed.{sumsOf, rightAt, withSums, withWord, payloadsIn};
@@ -109,12 +110,20 @@ pub fn seal_blocks(b: &mut [u8], blocks: usize)
     }
 }
 
+// How many blocks a string of n bits takes.
+pub fn string_blocks(n: usize) -> usize
+    requires { ⌜ n ≤ 65536 ⌝ }
+    ensures { λ r. ⌜ r ≡ stringBlocks n ⌝ }
+{
+    (n + 3999) / 4000
+}
+
 // The block at which R0 begins: behind the header and the blocks of R1.
 pub fn zeros_from(n: usize) -> usize
     requires { ⌜ n ≤ 65535 ⌝ }
     ensures { λ r. ⌜ r ≡ zerosFrom n ⌝ }
 {
-    1 + (n + 3999) / 4000
+    1 + string_blocks(n)
 }
 
 // The block at which the samples of R1 begin.
@@ -122,7 +131,7 @@ pub fn samples_from(n: usize) -> usize
     requires { ⌜ n ≤ 65535 ⌝ }
     ensures { λ r. ⌜ r ≡ samplesFrom n ⌝ }
 {
-    zeros_from(n) + (n + 1 + 3999) / 4000
+    zeros_from(n) + string_blocks(n + 1)
 }
 
 // How many blocks the samples of m ones take.

@@ -1,21 +1,22 @@
 -- Bytes cleared, and the counts of earlier ones put into a string's blocks: what the loops keep.
 use mathlib.Core.Path.{_≡_, refl, sym, ap, ap₂, _∙_, subst}
-use mathlib.Core.List.{List, [], _∷_, _++_}
-use Prim.Native.Nat.{ℕ, zero, suc, _+_, _-_, _*_, _/_, _%_, _≤_, _<_}
-use native.Mathlib.Decide.{decLt, ℕ-discrete}
+use mathlib.Core.List.{List, _∷_, _++_}
+use Prim.Native.Nat.{ℕ, zero, suc, _+_, _*_, _/_, _%_, _≤_, _<_}
+use native.Mathlib.Decide.{ℕ-discrete}
 use native.Mathlib.Numerals.{add-one}
 use native.Mathlib.Omega.{arith}
-use lib.ListN.{length, getD, take, drop, set, replicate, length-take, length-replicate}
-use lib.Seq.{drop-cons, set-at, take-suc}
-use Rattle.meaning.specs.Strings.{Bit, O, I, ones}
-use Rattle.meaning.specs.Bytes.{value, bitAt}
+use lib.ListN.{length, getD, drop, set, replicate, length-replicate}
+use lib.Seq.{drop-cons, ext-getD, set-at}
+use Rattle.meaning.specs.Strings.{O, ones}
+use Rattle.meaning.specs.Bytes.{bitsFrom}
 use Rattle.meaning.specs.Image.{stringBlocks, stringIn}
-use Rattle.theory.specs.Layout.{wordAt, bitPlace}
-use Rattle.theory.proofs.Odd.{ones-append}
-use Rattle.theory.proofs.Payloads.{ones-le}
-use Rattle.theory.proofs.TreeImages.{length-stringIn, stringIn-at}
-use Rattle.seal.specs.Passes.{Counted, countedAt}
-use Rattle.seal.proofs.Placing.{bit-agree, word-agree, put-length, put-word, put-byte, counted-here, counted-not}
+use Rattle.theory.specs.Layout.{wordAt}
+use Rattle.theory.proofs.Packing.{bits-length, bits-at}
+use Rattle.theory.proofs.InBlocks.{no-string, string-ones-le, stringIn-take, full-more}
+use Rattle.bits.proofs.Runs.{bits-ones-le}
+use Rattle.blocks.specs.Sealed.{withWord}
+use Rattle.seal.specs.Passes.{Counted}
+use Rattle.seal.proofs.Placing.{bit-agree, word-agree, put-length, put-word, put-byte}
 
 -- ---- bytes cleared
 
@@ -31,105 +32,69 @@ clear-next out old i e h =
 
 -- ---- counts
 
-ones-one : (b : Bit) → ones (b ∷ []) ≡ value b
-unfolding value
-ones-one O = refl
-ones-one I = refl
+pub block-few : (s : List ℕ) (p x : ℕ) → x ≡ ones (bitsFrom s p 4000) → x ≤ 4000
+block-few s p x e = omega (arith, bits-ones-le s p 4000)
 
-value-le : (b : Bit) → value b ≤ 1
-unfolding value
-value-le O = omega arith
-value-le I = omega arith
-
-pub record Counting (old out : List ℕ) (from n c i : ℕ) : Type 0 where
-  pub left : i ≤ n
-  pub sum : c ≡ ones (take i (stringIn old from 0 n))
-  pub counts : (j : ℕ) → 4000 * j < i → wordAt out (512 * (from + j)) ≡ ones (take (4000 * j) (stringIn old from 0 n))
+pub record Counting (old out : List ℕ) (from n c j : ℕ) : Type 0 where
+  pub left : j ≤ stringBlocks n
+  pub sum : c ≡ ones (stringIn old from 0 (4000 * j))
+  pub counts : (i : ℕ) → i < j → wordAt out (512 * (from + i)) ≡ ones (stringIn old from 0 (4000 * i))
   pub apart : (q : ℕ) → (512 * from ≤ q → q < 512 * (from + stringBlocks n) → 4 ≤ q % 512) → getD out q 0 ≡ getD old q 0
   pub kept : length out ≡ length old
 
 pub counting-first : (old : List ℕ) (from n : ℕ) → Counting old old from n 0 0
-counting-first old from n = record { left = omega arith; sum = refl; counts = λ j h. absurd (omega arith); apart = λ q h. refl; kept = refl }
+counting-first old from n = record { left = omega arith; sum = no-string old from; counts = λ i h. absurd (omega arith); apart = λ q h. refl; kept = refl }
 
-module _ (old out : List ℕ) (from n c i : ℕ) (k : Counting old out from n c i) where
-  pub counting-few : c ≤ i
-  counting-few =
-      let r = stringIn old from 0 n in
-      omega (arith, k .sum, ones-le (take i r), length-take i r)
+module _ (old out : List ℕ) (from n c j : ℕ) (k : Counting old out from n c j) where
+  pub counting-few : c ≤ 4000 * j
+  counting-few = omega (arith, k .sum, string-ones-le old from (4000 * j))
 
-  pub counting-last : n ≤ i → Counted old out from n
-  counting-last l = record { counts = λ j h. k .counts j (omega arith); apart = k .apart }
+  pub counting-last : stringBlocks n ≤ j → Counted old out from n
+  counting-last l = record {
+    counts = λ i h. k .counts i (omega arith) ∙ ap (λ s. ones s) (sym (stringIn-take old from (4000 * i) n (omega arith)));
+    apart = k .apart;
+  }
 
-  module _ (l : i < n) (few : n ≤ 65536) (room : 512 * (from + stringBlocks n) ≤ length old) where
-    fits : 512 * (from + i / 4000) + 4 ≤ length out
+  module _ (l : j < stringBlocks n) (few : n ≤ 65536) (room : 512 * (from + stringBlocks n) ≤ length old) where
+    fits : 512 * (from + j) + 4 ≤ length out
     fits = omega (arith, k .kept)
 
     new : List ℕ
-    new = countedAt out from i c
+    new = withWord out (512 * (from + j)) c
 
-    new-length : length new ≡ length out
+    new-byte : (q : ℕ) → (512 * (from + j) ≤ q → q < 512 * (from + j) + 4 → ⊥) → getD new q 0 ≡ getD out q 0
     unfolding new
-    new-length = elim (ℕ-discrete (i % 4000) 0) [
-      | yes e ↦ ap length (counted-here out from i c e) ∙ put-length out (512 * (from + i / 4000)) c fits
-      | no d ↦ ap length (counted-not out from i c d)
-    ]
-
-    new-byte : (q : ℕ) → (i % 4000 ≡ 0 → 512 * (from + i / 4000) ≤ q → q < 512 * (from + i / 4000) + 4 → ⊥) → getD new q 0 ≡ getD out q 0
-    unfolding new
-    new-byte q h = elim (ℕ-discrete (i % 4000) 0) [
-      | yes e ↦ ap (λ s. getD s q 0) (counted-here out from i c e) ∙ put-byte out (512 * (from + i / 4000)) c fits q (h e)
-      | no d ↦ ap (λ s. getD s q 0) (counted-not out from i c d)
-    ]
+    new-byte q h = put-byte out (512 * (from + j)) c fits q h
 
     new-apart : (q : ℕ) → (512 * from ≤ q → q < 512 * (from + stringBlocks n) → 4 ≤ q % 512) → getD new q 0 ≡ getD old q 0
     new-apart q h =
-        new-byte q (λ e a b. let g : 4 ≤ q % 512 = h (omega arith) (omega arith) in omega arith) ∙ k .apart q h
+        new-byte q (λ a b. let g : 4 ≤ q % 512 = h (omega arith) (omega arith) in omega arith) ∙ k .apart q h
 
-    new-bit : bitAt new (bitPlace from i) ≡ getD (stringIn old from 0 n) i O
-    new-bit =
-        bit-agree new old (bitPlace from i) (new-apart (bitPlace from i / 8) (λ a b. omega arith))
-        ∙ ap (λ j. bitAt old (bitPlace from j)) (let e : i ≡ 0 + i = omega arith in e) ∙ sym (stringIn-at old from 0 n i l)
+    -- the bits of the block are as before
+    new-bits : bitsFrom new (8 * (512 * (from + j) + 4)) 4000 ≡ bitsFrom old (8 * (512 * (from + j) + 4)) 4000
+    new-bits =
+        let p = 8 * (512 * (from + j) + 4) in
+        let m = bits-length new p 4000 in
+        ext-getD O (bitsFrom new p 4000) (bitsFrom old p 4000) (m ∙ sym (bits-length old p 4000))
+        (λ i h. let g : i < 4000 = omega arith in
+        bits-at new p 4000 i g ∙ bit-agree new old (p + i) (new-apart ((p + i) / 8) (λ a b. omega arith)) ∙ sym (bits-at old p 4000 i g))
 
-    new-sum : c + value (bitAt new (bitPlace from i)) ≡ ones (take (i + 1) (stringIn old from 0 n))
-    new-sum =
-        let r = stringIn old from 0 n in
-        let b = getD r i O in
-        sym (ap (λ j. ones (take j r)) (add-one i) ∙ ap ones (take-suc r i O (omega (arith, length-stringIn old from 0 n)))
-        ∙ ones-append (take i r) (b ∷ []) ∙ ap₂ (λ x y. x + y) (sym (k .sum)) (ones-one b ∙ ap value (sym new-bit)))
-
-    new-count : (j : ℕ) → 4000 * j < i + 1 → wordAt new (512 * (from + j)) ≡ ones (take (4000 * j) (stringIn old from 0 n))
+    new-count : (i : ℕ) → i < j + 1 → wordAt new (512 * (from + i)) ≡ ones (stringIn old from 0 (4000 * i))
     unfolding new
-    new-count j h = elim (ℕ-discrete (4000 * j) i) [
-      | yes e ↦ here e
-      | no d ↦ word-agree new out (512 * (from + j)) (λ q a b. new-byte q (λ z g m. d (omega arith)))
-          ∙ k .counts j (less (4000 * j) i h d)
+    new-count i h = elim (ℕ-discrete i j) [
+      | yes e ↦ ap (λ m. wordAt new (512 * (from + m))) e ∙ put-word out (512 * (from + j)) c fits (omega (arith, counting-few))
+          ∙ k .sum ∙ ap (λ m. ones (stringIn old from 0 (4000 * m))) (sym e)
+      | no d ↦ word-agree new out (512 * (from + i)) (λ q a b. new-byte q (λ g m. d (omega arith))) ∙ k .counts i (omega arith)
     ]
-      where
-        less : (a b : ℕ) → a < b + 1 → (a ≡ b → ⊥) → a < b
-        less a b g d = elim (decLt a b) [
-          | yes m ↦ m
-          | no m ↦ absurd (d (omega arith))
-        ]
 
-        here : 4000 * j ≡ i → wordAt (countedAt out from i c) (512 * (from + j)) ≡ ones (take (4000 * j) (stringIn old from 0 n))
-        here e =
-            let z : i % 4000 ≡ 0 = omega arith in
-            let v : i / 4000 ≡ j = omega arith in
-            ap₂ wordAt (counted-here out from i c z) (ap (λ m. 512 * (from + m)) (sym v))
-            ∙ put-word out (512 * (from + i / 4000)) c fits (omega (arith, counting-few))
-            ∙ k .sum ∙ ap (λ m. ones (take m (stringIn old from 0 n))) (sym e)
-
-    pub counting-next : (s : List ℕ) (x : ℕ) → s ≡ countedAt out from i c → x ≡ value (bitAt s (bitPlace from i)) → Counting old s from n (c + x) (i + 1)
+    pub counting-next : (s : List ℕ) (x : ℕ) → s ≡ withWord out (512 * (from + j)) c → x ≡ ones (bitsFrom s (8 * (512 * (from + j) + 4)) 4000)
+        → Counting old s from n (c + x) (j + 1)
     unfolding new
     counting-next s x e f =
-        let g : x ≡ value (bitAt new (bitPlace from i)) = f ∙ ap (λ t. value (bitAt t (bitPlace from i))) e in
-        subst (λ t. Counting old t from n (c + x) (i + 1)) (sym e) (record {
+        subst (λ t. Counting old t from n (c + x) (j + 1)) (sym e) (record {
           left = omega arith;
-          sum = ap (λ y. c + y) g ∙ new-sum;
+          sum = ap₂ _+_ (k .sum) (f ∙ ap (λ t. ones (bitsFrom t (8 * (512 * (from + j) + 4)) 4000)) e ∙ ap (λ t. ones t) new-bits) ∙ full-more old from j;
           counts = new-count;
           apart = new-apart;
-          kept = new-length ∙ k .kept;
+          kept = put-length out (512 * (from + j)) c fits ∙ k .kept;
         })
-
-pub bit-few : (x : ℕ) (b : Bit) → x ≡ value b → x ≤ 1
-bit-few x b e = omega (arith, value-le b)

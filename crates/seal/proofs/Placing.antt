@@ -19,7 +19,7 @@ use Rattle.theory.proofs.Digits.{wordAt-append, le32-first}
 use Rattle.bits.specs.Appended.{lit}
 use Rattle.bits.proofs.Appending.{lit-length}
 use Rattle.blocks.specs.Sealed.{withWord}
-use Rattle.seal.specs.Passes.{marked, countedAt, headed}
+use Rattle.seal.specs.Passes.{marked, headed}
 
 -- ---- the same bytes have the same bits and words
 
@@ -120,17 +120,6 @@ module _ (bytes : List ℕ) (from at x k : ℕ) where
     pub marked-byte : (q : ℕ) → (q / 512 ≡ from + x / 4000 → ⊥) → (q / 512 ≡ at + k / 64 / 126 → ⊥) → getD (marked bytes from at x k) q 0 ≡ getD bytes q 0
     marked-byte q n m =
         marked-set q (λ e h g. m (omega arith)) ∙ lit-byte bytes (bitPlace from x) q (λ e. n (omega arith))
-
--- ---- a count put
-
-module _ (bytes : List ℕ) (from i c : ℕ) where
-  pub counted-here : i % 4000 ≡ 0 → countedAt bytes from i c ≡ withWord bytes (512 * (from + i / 4000)) c
-  unfolding countedAt
-  counted-here e = ap (λ b. cond b (withWord bytes (512 * (from + i / 4000)) c) bytes) (eq-eqb (i % 4000) 0 e)
-
-  pub counted-not : (i % 4000 ≡ 0 → ⊥) → countedAt bytes from i c ≡ bytes
-  unfolding countedAt
-  counted-not d = ap (λ b. cond b (withWord bytes (512 * (from + i / 4000)) c) bytes) (ne-eqb (i % 4000) 0 d)
 
 -- ---- the header put
 

@@ -52,10 +52,6 @@ pub record Counted (old bytes : List ℕ) (from n : ℕ) : Type 0 where
   pub counts : (j : ℕ) → j < stringBlocks n → wordAt bytes (512 * (from + j)) ≡ ones (take (4000 * j) (stringIn old from 0 n))
   pub apart : (q : ℕ) → (512 * from ≤ q → q < 512 * (from + stringBlocks n) → 4 ≤ q % 512) → getD bytes q 0 ≡ getD old q 0
 
--- a word at the first bit of a block
-unfoldable pub countedAt : List ℕ → ℕ → ℕ → ℕ → List ℕ
-countedAt bytes from i c = cond (eqb (i % 4000) 0) (withWord bytes (512 * (from + i / 4000)) c) bytes
-
 -- ---- the header
 
 unfoldable pub headed : List ℕ → ℕ → ℕ → ℕ → List ℕ

@@ -9,7 +9,7 @@ ghost use Rattle.meaning.specs.Image.{stringBlocks, imageOfString};
 ghost use Rattle.meaning.specs.Parents.{badEntry};
 ghost use Rattle.meaning.specs.Strings.{stringOf};
 ghost use Rattle.seal.specs.Listed.{nextOf};
-ghost use Rattle.seal.specs.Passes.{marked, marksIn, blocksFor, Ready, Ran, Counted, countedAt, headed, Prepared};
+ghost use Rattle.seal.specs.Passes.{marked, marksIn, blocksFor, Ready, Ran, Counted, headed, Prepared};
 use meaning::Answer;
 use meaning::MOST_NODES;
 use meaning::NO_ROOM;
@@ -102,24 +102,6 @@ fn mark_runs(image: &mut [u8], ps: &[u32], zeros: usize, first: usize, second: u
     }
 }
 
-fn count(x: u8) -> u32
-    ensures { λ r. ⌜ r ≡ x ⌝ }
-{
-    x as u32
-}
-
-// The count c of earlier ones, if bit `i` is the first of its block.
-fn put_count(image: &mut [u8], from: usize, i: usize, c: u32)
-    requires { ⌜ from ≤ 53 ⌝ }
-    requires { ⌜ i ≤ 65535 ⌝ }
-    requires { do ⌜ 512 * (from + i / 4000 + 1) ≤ (← ⟦image.len()⟧) ⌝ }
-    ensures { λ _. ⌜ now (image .exit) ≡ countedAt (now (image .entry)) from i c ⌝ }
-{
-    if i % 4000 == 0 {
-        blocks::put_word(image, 512 * (from + i / 4000), c);
-    }
-}
-
 // The counts of earlier ones in the blocks from `from` on, which hold n bits.
 fn put_counts(image: &mut [u8], from: usize, n: usize)
     requires { ⌜ from ≤ 53 ⌝ }
@@ -127,12 +109,14 @@ fn put_counts(image: &mut [u8], from: usize, n: usize)
     requires { do ⌜ 512 * (from + stringBlocks n) ≤ (← ⟦image.len()⟧) ⌝ }
     ensures { λ _. ⌜ Counted (now (image .entry)) (now (image .exit)) from n ⌝ }
 {
+    let end = blocks::string_blocks(n);
     let mut c: u32 = 0;
-    let mut i: usize = 0;
-    while i < n {
-        put_count(image, from, i, c);
-        c = c + count(bits::bit_at(image, 8 * (512 * (from + i / 4000) + 4) + i % 4000));
-        i += 1;
+    let mut j: usize = 0;
+    while j < end {
+        blocks::put_word(image, 512 * (from + j), c);
+        // of the last block all 4,000 bits too: its ones are in no count
+        c += bits::ones_from(image, 512 * (from + j) + 4, 4000);
+        j += 1;
     }
 }
 

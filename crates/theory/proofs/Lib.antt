@@ -18,6 +18,7 @@ pub mod Sealing
 pub mod Payloads
 pub mod Images
 pub mod TreeImages
+pub mod InBlocks
 pub mod InStep
 pub mod Stages
 pub mod Addresses

@@ -1,62 +1,68 @@
 -- `seal::put_counts` meets its contract.
-use Rattle.seal.proofs.Counting.{Counting, counting-first, counting-few, counting-next, counting-last, bit-few}
 use Prim.Native.Nat.{_-_}
-use borrow.Author.Needs.{needs}
 use native.Mathlib.Omega.{arith}
-use mathlib.Core.Path.{_∙_}
+use borrow.Author.Needs.{needs}
+use Rattle.seal.proofs.Counting.{Counting, block-few, counting-first, counting-few, counting-next, counting-last}
 use Rattle.seal.proofs.put_counts.Statement.{statement}
 use Rattle.seal.proofs.put_counts.Tie as tie
 
 abbrev Inv-loop : tie.InvT-loop
-Inv-loop image₀ from n c₀ i₀ image c i = Counting image₀ image from n c i
+Inv-loop image₀ from n end c₀ j₀ image c j = Counting image₀ image from n c j
 
 abbrev μ-loop : tie.MeasureT-loop
-μ-loop image₀ from n c₀ i₀ image c i = n - i
+μ-loop image₀ from n end c₀ j₀ image c j = end - j
+
+string-blocks-requires : tie.Need-string-blocks-requires Inv-loop μ-loop
+string-blocks-requires c κs = search needs
 
 loop-holds : tie.Need-loop-holds Inv-loop μ-loop
 loop-holds c = counting-first _ _ _
 
-put-count-requires : tie.Need-put-count-requires Inv-loop μ-loop
-put-count-requires c κs = search needs
+add-put-word : tie.Need-add-put-word Inv-loop μ-loop
+add-put-word c = search needs
 
-add-bit-at : tie.Need-add-bit-at Inv-loop μ-loop
-add-bit-at c = search needs
+mul-put-word : tie.Need-mul-put-word Inv-loop μ-loop
+mul-put-word c = search needs
 
-mul-bit-at : tie.Need-mul-bit-at Inv-loop μ-loop
-mul-bit-at c = search needs
+put-word-requires : tie.Need-put-word-requires Inv-loop μ-loop
+put-word-requires c κs = search needs
 
-add-bit-at-2 : tie.Need-add-bit-at-2 Inv-loop μ-loop
-add-bit-at-2 c = search needs
+add-ones-from : tie.Need-add-ones-from Inv-loop μ-loop
+add-ones-from c = search needs
 
-mul-bit-at-2 : tie.Need-mul-bit-at-2 Inv-loop μ-loop
-mul-bit-at-2 c = search needs
+mul-ones-from : tie.Need-mul-ones-from Inv-loop μ-loop
+mul-ones-from c = search needs
 
-add-bit-at-3 : tie.Need-add-bit-at-3 Inv-loop μ-loop
-add-bit-at-3 c = search needs
+add-ones-from-2 : tie.Need-add-ones-from-2 Inv-loop μ-loop
+add-ones-from-2 c = search needs
 
-bit-at-requires : tie.Need-bit-at-requires Inv-loop μ-loop
-bit-at-requires c κs = search needs
-
-count-requires : tie.Need-count-requires Inv-loop μ-loop
-count-requires c κs = search needs
+ones-from-requires : tie.Need-ones-from-requires Inv-loop μ-loop
+ones-from-requires c κs = search needs
 
 add-c : tie.Need-add-c Inv-loop μ-loop
-add-c c = let f = counting-few _ _ _ _ _ _ (c .before .before .before .before .before .before .before .before .loop .inv) in let b = bit-few _ _ (c .count .ensures ∙ c .before .bit-at .ensures) in omega arith
+add-c c =
+    let few = counting-few _ _ _ _ _ _ (c .before .before .before .before .before .before .before .loop .inv) in
+    let more = block-few _ _ _ (c .ones-from .ensures) in
+    omega arith
 
-add-i : tie.Need-add-i Inv-loop μ-loop
-add-i c = search needs
+add-j : tie.Need-add-j Inv-loop μ-loop
+add-j c = search needs
 
 loop-less : tie.Need-loop-less Inv-loop μ-loop
 loop-less c = search needs
 
 loop-again : tie.Need-loop-again Inv-loop μ-loop
-loop-again c = counting-next _ _ _ _ _ _ (c .before .before .before .before .before .before .before .before .loop .inv) (c .before .before .before .before .before .before .before .loop-test .taken) (c .before .before .before .before .before .before .before .before .before .before .pre .1 .0) (c .before .before .before .before .before .before .before .before .before .before .pre .1 .1) _ _ (c .before .before .before .before .before .put-count .ensures) (c .count .ensures ∙ c .before .bit-at .ensures)
+loop-again c =
+    let put = c .before .before .before .before in
+    let l = put .before .before .before .loop in
+    let p = put .before .before .before .before .before .before .pre in
+    counting-next _ _ _ _ _ _ (l .inv) (omega arith) (p .1 .0) (p .1 .1) _ _ (put .put-word .ensures) (c .ones-from .ensures)
 
 same-length : tie.Need-same-length Inv-loop μ-loop
 same-length c = c .before .loop .inv .kept
 
 returns : tie.Need-returns Inv-loop μ-loop
-returns c = counting-last _ _ _ _ _ _ (c .before .loop .inv) (c .loop-test .left)
+returns c = counting-last _ _ _ _ _ _ (c .before .loop .inv) (omega arith)
 
 pub put-counts-spec : {M : Type 1} → statement M
 put-counts-spec =
@@ -64,17 +70,17 @@ put-counts-spec =
     (tie.spec
     Inv-loop
     μ-loop
+    string-blocks-requires
     loop-holds
-    put-count-requires
-    add-bit-at
-    mul-bit-at
-    add-bit-at-2
-    mul-bit-at-2
-    add-bit-at-3
-    bit-at-requires
-    count-requires
+    add-put-word
+    mul-put-word
+    put-word-requires
+    add-ones-from
+    mul-ones-from
+    add-ones-from-2
+    ones-from-requires
     add-c
-    add-i
+    add-j
     loop-less
     loop-again
     same-length
