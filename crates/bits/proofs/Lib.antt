@@ -6,3 +6,4 @@ pub mod Writing
 pub mod Counting
 pub mod Placing
 pub mod Runs
+pub mod Words

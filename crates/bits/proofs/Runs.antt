@@ -5,8 +5,8 @@ use Prim.Native.Nat.{ℕ, _+_, _-_, _*_, _/_, _%_, _≤_}
 use native.Mathlib.Omega.{arith}
 use lib.ListN.{getD, take}
 use lib.Seq.{take-at}
-use Rattle.meaning.specs.Strings.{ones}
-use Rattle.meaning.specs.Bytes.{bitsFrom}
+use Rattle.meaning.specs.Strings.{Bit, O, I, ones}
+use Rattle.meaning.specs.Bytes.{bitAt, bitsFrom, value}
 use Rattle.theory.proofs.Odd.{ones-append}
 use Rattle.theory.proofs.Payloads.{ones-le}
 use Rattle.theory.proofs.Packing.{bits-length, bits-cut, bits-of-byte}
@@ -23,39 +23,64 @@ no-bits bytes p = refl
 pub ones-cut : (bytes : List ℕ) (p k m : ℕ) → ones (bitsFrom bytes p (k + m)) ≡ ones (bitsFrom bytes p k) + ones (bitsFrom bytes (p + k) m)
 ones-cut bytes p k m = ap (λ l. ones l) (bits-cut bytes k m p) ∙ ones-append (bitsFrom bytes p k) (bitsFrom bytes (p + k) m)
 
+pub ones-of-bit : (x : Bit) → ones (x ∷ []) ≡ value x
+unfolding value
+ones-of-bit O = refl
+ones-of-bit I = refl
+
+-- one bit more
+pub bits-next : (bytes : List ℕ) (q i x : ℕ) → x ≡ value (bitAt bytes (q + i)) → ones (bitsFrom bytes q (i + 1)) ≡ ones (bitsFrom bytes q i) + x
+unfolding bitsFrom
+bits-next bytes q i x e = ones-cut bytes q i 1 ∙ ap (λ y. ones (bitsFrom bytes q i) + y) (ones-of-bit (bitAt bytes (q + i)) ∙ sym e)
+
+pub bits-mono : (bytes : List ℕ) (q i n : ℕ) → i ≤ n → ones (bitsFrom bytes q i) ≤ ones (bitsFrom bytes q n)
+bits-mono bytes q i n h =
+    let k = n - i in
+    omega (arith, ones-cut bytes q i k, ap (λ m. ones (bitsFrom bytes q m)) (let e : i + k ≡ n = omega arith in e))
+
+-- the first n of more bits
+pub bits-take : (bytes : List ℕ) (p n m : ℕ) → n ≤ m → take n (bitsFrom bytes p m) ≡ bitsFrom bytes p n
+bits-take bytes p n m h =
+    let k = m - n in
+    ap (λ l. take n (bitsFrom bytes p l)) (let e : m ≡ n + k = omega arith in e)
+    ∙ ap (take n) (bits-cut bytes n k p)
+    ∙ take-at (bitsFrom bytes p n) (bitsFrom bytes (p + n) k) n (bits-length bytes p n)
+
+-- a byte
+pub byte-run : (bytes : List ℕ) (i r : ℕ) → r ≤ 8 → ones (take r (byteBits (getD bytes i 0))) ≡ ones (bitsFrom bytes (8 * i) r)
+byte-run bytes i r h =
+    let x = getD bytes i 0 in
+    ap (λ l. ones l) (bits-take (x ∷ []) 0 r 8 h ∙ sym (bits-of-byte bytes i 0 r (omega arith)))
+    ∙ ap (λ p. ones (bitsFrom bytes p r)) (let e : 8 * i + 0 ≡ 8 * i = omega arith in e)
+
+pub whole-byte-run : (bytes : List ℕ) (i : ℕ) → ones (byteBits (getD bytes i 0)) ≡ ones (bitsFrom bytes (8 * i) 8)
+whole-byte-run bytes i = ap (λ l. ones l) (sym (bits-take (getD bytes i 0 ∷ []) 0 8 8 (omega arith))) ∙ byte-run bytes i 8 (omega arith)
+
+-- after the first i bytes, q bits more
+pub ones-after : (bytes : List ℕ) (at i q : ℕ) → ones (bitsFrom bytes (8 * at) (8 * i + q)) ≡ ones (bitsFrom bytes (8 * at) (8 * i)) + ones (bitsFrom bytes (8 * (at + i)) q)
+ones-after bytes at i q =
+    ones-cut bytes (8 * at) (8 * i) q
+    ∙ ap (λ p. ones (bitsFrom bytes (8 * at) (8 * i)) + ones (bitsFrom bytes p q)) (let e : 8 * at + 8 * i ≡ 8 * (at + i) = omega arith in e)
+
 module _ (bytes : List ℕ) (at i : ℕ) where
-  -- after the first i bytes, eight more
+  -- eight bytes more
   pub eight-more : ones (bitsFrom bytes (8 * at) (8 * i)) + ones (bitsFrom bytes (8 * (at + i)) 64) ≡ ones (bitsFrom bytes (8 * at) (8 * (i + 8)))
-  eight-more =
-      ap (λ p. ones (bitsFrom bytes (8 * at) (8 * i)) + ones (bitsFrom bytes p 64)) (let e : 8 * (at + i) ≡ 8 * at + 8 * i = omega arith in e)
-      ∙ sym (ones-cut bytes (8 * at) (8 * i) 64)
-      ∙ ap (λ n. ones (bitsFrom bytes (8 * at) n)) (let e : 8 * i + 64 ≡ 8 * (i + 8) = omega arith in e)
+  eight-more = sym (ones-after bytes at i 64) ∙ ap (λ n. ones (bitsFrom bytes (8 * at) n)) (let e : 8 * i + 64 ≡ 8 * (i + 8) = omega arith in e)
 
-  -- the front of the byte after them
-  front-more : (r : ℕ) → r ≤ 8 → ones (bitsFrom bytes (8 * at) (8 * i)) + ones (bitsFrom (getD bytes (at + i) 0 ∷ []) 0 r) ≡ ones (bitsFrom bytes (8 * at) (8 * i + r))
-  front-more r h =
-      ap (λ l. ones (bitsFrom bytes (8 * at) (8 * i)) + ones l) (sym (bits-of-byte bytes (at + i) 0 r (omega arith)))
-      ∙ ap (λ p. ones (bitsFrom bytes (8 * at) (8 * i)) + ones (bitsFrom bytes p r)) (let e : 8 * (at + i) + 0 ≡ 8 * at + 8 * i = omega arith in e)
-      ∙ sym (ones-cut bytes (8 * at) (8 * i) r)
-
-  -- that byte
+  -- one byte more
   pub one-more : ones (bitsFrom bytes (8 * at) (8 * i)) + ones (byteBits (getD bytes (at + i) 0)) ≡ ones (bitsFrom bytes (8 * at) (8 * (i + 1)))
-  one-more = front-more 8 (omega arith) ∙ ap (λ n. ones (bitsFrom bytes (8 * at) n)) (let e : 8 * i + 8 ≡ 8 * (i + 1) = omega arith in e)
-
-byte-front : (x r : ℕ) → r ≤ 8 → take r (byteBits x) ≡ bitsFrom (x ∷ []) 0 r
-byte-front x r h =
-    let s = 8 - r in
-    ap (λ n. take r (bitsFrom (x ∷ []) 0 n)) (let e : 8 ≡ r + s = omega arith in e)
-    ∙ ap (take r) (bits-cut (x ∷ []) r s 0)
-    ∙ take-at (bitsFrom (x ∷ []) 0 r) (bitsFrom (x ∷ []) (0 + r) s) r (bits-length (x ∷ []) 0 r)
+  one-more =
+      ap (λ k. ones (bitsFrom bytes (8 * at) (8 * i)) + k) (whole-byte-run bytes (at + i))
+      ∙ sym (ones-after bytes at i 8)
+      ∙ ap (λ n. ones (bitsFrom bytes (8 * at) n)) (let e : 8 * i + 8 ≡ 8 * (i + 1) = omega arith in e)
 
 pub front-ones-le : (x r : ℕ) → r ≤ 8 → ones (take r (byteBits x)) ≤ 8
-front-ones-le x r h = omega (arith, ap (λ l. ones l) (byte-front x r h), bits-ones-le (x ∷ []) 0 r)
+front-ones-le x r h = omega (arith, ap (λ l. ones l) (bits-take (x ∷ []) 0 r 8 h), bits-ones-le (x ∷ []) 0 r)
 
 -- the last bits, of which there are fewer than eight
 pub last-more : (bytes : List ℕ) (at n : ℕ)
     → ones (bitsFrom bytes (8 * at) (8 * (n / 8))) + ones (take (n % 8) (byteBits (getD bytes (at + n / 8) 0))) ≡ ones (bitsFrom bytes (8 * at) n)
 last-more bytes at n =
-    ap (λ l. ones (bitsFrom bytes (8 * at) (8 * (n / 8))) + ones l) (byte-front (getD bytes (at + n / 8) 0) (n % 8) (omega arith))
-    ∙ front-more bytes at (n / 8) (n % 8) (omega arith)
+    ap (λ k. ones (bitsFrom bytes (8 * at) (8 * (n / 8))) + k) (byte-run bytes (at + n / 8) (n % 8) (omega arith))
+    ∙ sym (ones-after bytes at (n / 8) (n % 8))
     ∙ ap (λ k. ones (bitsFrom bytes (8 * at) k)) (let e : 8 * (n / 8) + n % 8 ≡ n = omega arith in e)

@@ -7,6 +7,7 @@ ghost use Rattle.meaning.specs.Bytes.{bitAt, bitsFrom, number, value};
 ghost use Rattle.meaning.specs.Places.{placeRow};
 ghost use Rattle.theory.specs.Rank.{position};
 ghost use Rattle.bits.specs.Appended.{appended, byteBits, lit};
+ghost use Rattle.bits.specs.Both.{both};
 
 // The bit of `b` that p bits come before.
 pub fn bit_at(b: &[u8], p: usize) -> u8
@@ -82,7 +83,7 @@ pub fn ones_in_front(x: u8, n: usize) -> u32
 
 // A byte as a word, in which it can be shifted up.
 fn wide(x: u8) -> u64
-    ensures { λ r. ⌜ r ≡ x ⌝ }
+    ensures { λ r. ⌜ (r ≡ x) × (r < 256) ⌝ }
 {
     x as u64
 }
@@ -126,6 +127,41 @@ pub fn ones_from(b: &[u8], at: usize, n: usize) -> u32
         return count;
     }
     count + ones_in_front(b[at + whole], n % 8)
+}
+
+// The 32 bits from byte `at` on as a number, most significant first.
+fn half_word(b: &[u8], at: usize) -> u64
+    requires { do ⌜ at + 4 ≤ (← ⟦b.len()⟧) ⌝ }
+    ensures { λ r. ⌜ r ≡ number 32 (bitsFrom (now (b .entry)) (8 * at) 32) ⌝ }
+{
+    wide(b[at]) * 16777216 + wide(b[at + 1]) * 65536 + wide(b[at + 2]) * 256 + wide(b[at + 3])
+}
+
+// The 64 bits from byte `at` on as a number, most significant first: sums, which become one load.
+fn whole_word(b: &[u8], at: usize) -> u64
+    requires { do ⌜ at + 8 ≤ (← ⟦b.len()⟧) ⌝ }
+    ensures { λ r. ⌜ r ≡ number 64 (bitsFrom (now (b .entry)) (8 * at) 64) ⌝ }
+{
+    half_word(b, at) * 4294967296 + half_word(b, at + 4)
+}
+
+// How many of the first n bits from byte `at` on are one, of the 64 in eight bytes.
+pub fn ones_before(b: &[u8], at: usize, n: usize) -> u32
+    requires { ⌜ n < 64 ⌝ }
+    requires { do ⌜ at + 8 ≤ (← ⟦b.len()⟧) ⌝ }
+    ensures { λ r. ⌜ r ≡ ones (bitsFrom (now (b .entry)) (8 * at) n) ⌝ }
+{
+    // two shifts, since 64 is too far for one
+    u64::count_ones((whole_word(b, at) >> 1) >> (63 - n))
+}
+
+// At how many of 64 places both the bits from byte `at` on and those from byte `other` on are one.
+pub fn ones_in_both(b: &[u8], at: usize, other: usize) -> u32
+    requires { do ⌜ at + 8 ≤ (← ⟦b.len()⟧) ⌝ }
+    requires { do ⌜ other + 8 ≤ (← ⟦b.len()⟧) ⌝ }
+    ensures { λ r. ⌜ r ≡ ones (both (bitsFrom (now (b .entry)) (8 * at) 64) (bitsFrom (now (b .entry)) (8 * other) 64)) ⌝ }
+{
+    u64::count_ones(whole_word(b, at) & whole_word(b, other))
 }
 
 // A table of sixteen rows of four: the place 1 to 4 of the first to fourth one of a four-bit value, most significant first, 0 where it has fewer.

@@ -1,3 +1,4 @@
 pub mod Summing
+pub mod Lanes
 pub mod Checking
 pub mod Laws

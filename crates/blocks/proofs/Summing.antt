@@ -26,14 +26,17 @@ module _ (b : List ℕ) (at : ℕ) (room : at + 504 ≤ length b) where
       sym (wordAt-drop at b (4 * i)) ∙ sym (wordAt-take 504 (drop at b) (4 * i) (omega arith))
       ∙ words-at i (take 504 (drop at b)) (omega (arith, payload-size))
 
+  pub words-here : (i w : ℕ) → i < 126 → w ≡ wordAt b (at + 4 * i) → drop i (wordsFrom b at) ≡ w ∷ drop (i + 1) (wordsFrom b at)
+  words-here i w h word =
+      let ws = wordsFrom b at in
+      drop-cons ws i 0 (omega (arith, words-count)) ∙ ap₂ (λ x k. x ∷ drop k ws) (sym (word-is i h) ∙ sym word) (sym (add-one i))
+
   pub sums-next : (i w s t s′ t′ : ℕ) (all : List ℕ) → i < 126 → sums (drop i (wordsFrom b at)) s t ≡ all
       → w ≡ wordAt b (at + 4 * i) → s′ ≡ (s + w) % 2 ^ 32 → t′ ≡ (t + s′) % 2 ^ 32 → sums (drop (i + 1) (wordsFrom b at)) s′ t′ ≡ all
   unfolding sums
   sums-next i w s t s′ t′ all h before word new after =
       let ws = wordsFrom b at in
-      let here : drop i ws ≡ w ∷ drop (i + 1) ws =
-      drop-cons ws i 0 (omega (arith, words-count)) ∙ ap₂ (λ x k. x ∷ drop k ws) (sym (word-is i h) ∙ sym word) (sym (add-one i)) in
-      ap₂ (sums (drop (i + 1) ws)) new (after ∙ ap (λ x. (t + x) % 2 ^ 32) new) ∙ sym (ap (λ xs. sums xs s t) here) ∙ before
+      ap₂ (sums (drop (i + 1) ws)) new (after ∙ ap (λ x. (t + x) % 2 ^ 32) new) ∙ sym (ap (λ xs. sums xs s t) (words-here i w h word)) ∙ before
 
   pub sums-last : (i s t : ℕ) (all : List ℕ) → 126 ≤ i → sums (drop i (wordsFrom b at)) s t ≡ all → s ∷ t ∷ [] ≡ all
   unfolding sums

@@ -7,7 +7,7 @@ use native.Mathlib.Omega.{arith}
 use borrow.Author.Tests.{lt-ltb, le-ltb}
 use lib.ListN.{length}
 use Rattle.meaning.specs.declared.Answer.{Answer}
-use Rattle.meaning.specs.Answers.{Row, _at_when_, Outcome, refusedWith, counts, cameTo, settle, written, tooShort}
+use Rattle.meaning.specs.Answers.{_at_when_, refusedWith, counts, cameTo, written, tooShort}
 use Rattle.meaning.specs.Strings.{ones, R1, stringOf, parentsOf, woven}
 use Rattle.meaning.specs.Image.{parentsIn, stringIn}
 use Rattle.meaning.specs.Calls.{checkRows, checkImage, parentsOfImage}
@@ -19,7 +19,7 @@ use Rattle.theory.proofs.Stages.{image-stages, parts-read}
 use Rattle.image.specs.declared.Image.{Image}
 use Rattle.image.specs.declared.Checked.{Checked}
 use Rattle.image.specs.declared.Checked.the-variants.{Sound, Refused}
-use Rattle.image.specs.Checked.{answered, checked, imageIn}
+use Rattle.image.specs.Checked.{answered, checked}
 use Rattle.image.specs.Threads.{InRuns}
 use Rattle.image.proofs.Finding.{IsSound, comesTo, rows-checked, sound-known}
 

@@ -1,5 +1,5 @@
 -- What the whole check of an image finds, and document 01's numbers for it ("Numbers a caller gets back").
-use mathlib.Core.Bool.{Bool, true, false, cond}
+use mathlib.Core.Bool.{cond}
 use mathlib.Core.List.{List}
 use Prim.Native.Nat.{ℕ, _+_}
 use lib.Dec.{ltb}

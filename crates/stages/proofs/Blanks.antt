@@ -12,14 +12,14 @@ use lib.ListN.{getD}
 use Rattle.meaning.specs.Strings.{O, ones}
 use Rattle.meaning.specs.Bytes.{bit, bitAt, bitsFrom, bytesFor, leftover}
 use Rattle.meaning.specs.Image.{stringBlocks, stringIn}
-use Rattle.theory.specs.Layout.{AreBytes}
+use Rattle.theory.specs.Layout.{bitPlace, AreBytes}
 use Rattle.theory.specs.Stages.{Kept}
 use Rattle.theory.proofs.Digits.{byte-lt, same-bits}
 use Rattle.theory.proofs.Packing.{bits-of-byte, leftover-bits, bits-leftover}
-use Rattle.theory.proofs.TreeImages.{bitPlace, length-stringIn}
+use Rattle.theory.proofs.TreeImages.{length-stringIn}
 use Rattle.bits.proofs.Table.{all, at}
 use Rattle.stages.specs.Parts.{ZeroBytes, Counted, Unused}
-use Rattle.stages.proofs.Pieces.{stringIn-take}
+use Rattle.theory.proofs.InBlocks.{stringIn-take}
 
 -- ---- whole bytes
 

@@ -4,3 +4,4 @@ pub mod Pieces
 pub mod Blanks
 pub mod Stepping
 pub mod Sampling
+pub mod Passing

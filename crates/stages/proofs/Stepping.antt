@@ -1,28 +1,26 @@
 -- Two strings in step: the ones among the first bits, counted bit by bit or byte by byte.
-use mathlib.Core.Path.{_≡_, refl, sym, ap, ap₂, _∙_}
-use mathlib.Core.Bool.{Bool, true, false}
-use mathlib.Core.List.{List, [], _∷_, _++_}
-use Prim.Native.Nat.{ℕ, zero, suc, _+_, _-_, _*_, _/_, _%_, _≤_, _<_}
+use mathlib.Core.Path.{_≡_, sym, ap, _∙_}
+use mathlib.Core.List.{List, [], _∷_}
+use Prim.Native.Nat.{ℕ, zero, suc, _+_, _-_, _*_, _≤_, _<_}
 use native.Mathlib.Decide.{decLt}
 use native.Mathlib.Omega.{arith}
 use borrow.Author.Count.{below-more}
-use borrow.Author.Tests.{eqb-true, eqb-false}
-use lib.Dec.{eqb}
 use lib.ListN.{length, getD, take}
-use lib.Seq.{ext-getD, take-at}
 use Rattle.meaning.specs.Strings.{Bit, O, I, ones}
 use Rattle.meaning.specs.Bytes.{value, bitAt, bitsFrom}
 use Rattle.meaning.specs.Image.{stringIn}
 use Rattle.theory.specs.Stages.{InStep}
 use Rattle.theory.proofs.Bits.{I≢O}
 use Rattle.theory.proofs.Odd.{ones-append}
-use Rattle.theory.proofs.Packing.{bits-length, bits-at, bits-of-byte}
+use Rattle.theory.proofs.Packing.{bits-length}
 use Rattle.theory.proofs.Payloads.{ones-le}
-use Rattle.theory.proofs.TreeImages.{bitPlace, length-stringIn, stringIn-at}
-use Rattle.bits.specs.Appended.{byteBits}
+use Rattle.theory.specs.Layout.{bitPlace}
+use Rattle.theory.proofs.TreeImages.{length-stringIn, stringIn-at}
+use Rattle.bits.specs.Both.{both}
 use Rattle.bits.proofs.Values.{is-O, is-I}
-use Rattle.stages.specs.Says.{Says}
-use Rattle.stages.specs.Steps.{onesTo, StepWithin}
+use Rattle.stages.specs.Steps.{onesTo, StepAt, StepWithin}
+use Rattle.theory.proofs.InBlocks.{stringIn-cut, stringIn-take, block-more}
+use Rattle.bits.proofs.Runs.{ones-of-bit, ones-cut, bits-take, ones-after}
 
 -- ---- what holds from a to before b
 
@@ -38,32 +36,13 @@ module _ (P : ℕ → Type 0) where
 
 -- ---- the ones among the first bits
 
-ones-of-bit : (x : Bit) → ones (x ∷ []) ≡ value x
-unfolding value
-ones-of-bit O = refl
-ones-of-bit I = refl
-
 module _ (bytes : List ℕ) (f : ℕ) where
-  string-cut : (k m i : ℕ) → stringIn bytes f i (k + m) ≡ stringIn bytes f i k ++ stringIn bytes f (i + k) m
-  unfolding stringIn
-  string-cut zero m i = ap₂ (stringIn bytes f) (let e : i ≡ i + 0 = omega arith in e) (let e : 0 + m ≡ m = omega arith in e)
-  string-cut (suc k) m i =
-      ap (stringIn bytes f i) (let e : suc k + m ≡ suc (k + m) = omega arith in e)
-      ∙ ap (λ r. bitAt bytes (bitPlace f i) ∷ r) (string-cut k m (suc i))
-      ∙ ap (λ q. bitAt bytes (bitPlace f i) ∷ stringIn bytes f (suc i) k ++ stringIn bytes f q m) (let e : suc i + k ≡ i + suc k = omega arith in e)
-
-  string-front : (p n : ℕ) → p ≤ n → take p (stringIn bytes f 0 n) ≡ stringIn bytes f 0 p
-  string-front p n h =
-      ap (λ k. take p (stringIn bytes f 0 k)) (let e : n ≡ p + (n - p) = omega arith in e)
-      ∙ ap (take p) (string-cut p (n - p) 0)
-      ∙ take-at (stringIn bytes f 0 p) (stringIn bytes f (0 + p) (n - p)) p (length-stringIn bytes f 0 p)
-
   pub onesTo-take : (p n : ℕ) → p ≤ n → ones (take p (stringIn bytes f 0 n)) ≡ onesTo bytes f p
-  onesTo-take p n h = ap ones (string-front p n h)
+  onesTo-take p n h = ap ones (stringIn-take bytes f p n h)
 
   pub onesTo-cut : (i m : ℕ) → onesTo bytes f (i + m) ≡ onesTo bytes f i + ones (stringIn bytes f i m)
   onesTo-cut i m =
-      ap ones (string-cut i m 0)
+      ap ones (stringIn-cut bytes f i m 0)
       ∙ ones-append (stringIn bytes f 0 i) (stringIn bytes f (0 + i) m)
       ∙ ap (λ q. onesTo bytes f i + ones (stringIn bytes f q m)) (let e : 0 + i ≡ i = omega arith in e)
 
@@ -80,27 +59,93 @@ module _ (bytes : List ℕ) (f : ℕ) where
   pub string-at : (n i : ℕ) → i < n → getD (stringIn bytes f 0 n) i O ≡ bitAt bytes (bitPlace f i)
   string-at n i h = stringIn-at bytes f 0 n i h ∙ ap (λ q. bitAt bytes (bitPlace f q)) (let e : 0 + i ≡ i = omega arith in e)
 
-  -- eight bits in one byte
-  pub string-byte : (i : ℕ) → i % 8 ≡ 0 → byteBits (getD bytes (512 * (f + i / 4000) + 4 + i % 4000 / 8) 0) ≡ stringIn bytes f i 8
-  string-byte i h =
-      let at = 512 * (f + i / 4000) + 4 + i % 4000 / 8 in
-      let l = length-stringIn bytes f i 8 in
-      sym (bits-of-byte bytes at 0 8 (omega arith))
-      ∙ ap (λ p. bitsFrom bytes p 8) (let e : 8 * at + 0 ≡ bitPlace f i = omega arith in e)
-      ∙ sym (ext-getD O (stringIn bytes f i 8) (bitsFrom bytes (bitPlace f i) 8) (l ∙ sym (bits-length bytes (bitPlace f i) 8))
-      (λ k g. stringIn-at bytes f i 8 k (omega arith)
-      ∙ ap (bitAt bytes) (let e : bitPlace f (i + k) ≡ bitPlace f i + k = omega arith in e)
-      ∙ sym (bits-at bytes (bitPlace f i) 8 k (omega arith))))
+  -- within block j
+  pub onesTo-block : (j k : ℕ) → k ≤ 4000 → onesTo bytes f (4000 * j + k) ≡ onesTo bytes f (4000 * j) + ones (bitsFrom bytes (8 * (512 * (f + j) + 4)) k)
+  onesTo-block j k h = sym (block-more bytes f j k h)
 
-  pub eight-le : (i : ℕ) → ones (stringIn bytes f i 8) ≤ 8
-  eight-le i = omega (arith, ones-le (stringIn bytes f i 8), length-stringIn bytes f i 8)
+-- ---- R1 and R0 in step, in pieces
+
+-- a one that both have moves neither ahead
+shared : (xs ys : List Bit) (p : ℕ) → length xs ≡ length ys → ones (take p xs) + ones (both xs ys) ≤ ones (take p ys) + ones xs
+shared [] ys zero h = omega arith
+shared [] ys (suc p) h = omega arith
+shared (x ∷ xs) [] p h = absurd (omega arith)
+shared (O ∷ xs) (y ∷ ys) zero h = omega (arith, shared xs ys 0 (omega arith))
+shared (I ∷ xs) (O ∷ ys) zero h = omega (arith, shared xs ys 0 (omega arith))
+shared (I ∷ xs) (I ∷ ys) zero h = omega (arith, shared xs ys 0 (omega arith))
+shared (O ∷ xs) (O ∷ ys) (suc p) h = omega (arith, shared xs ys p (omega arith))
+shared (O ∷ xs) (I ∷ ys) (suc p) h = omega (arith, shared xs ys p (omega arith))
+shared (I ∷ xs) (O ∷ ys) (suc p) h = omega (arith, shared xs ys p (omega arith))
+shared (I ∷ xs) (I ∷ ys) (suc p) h = omega (arith, shared xs ys p (omega arith))
+
+module _ (bytes : List ℕ) (at1 at0 k1 k0 : ℕ) where
+  pub step-none : StepAt bytes at1 at0 0 k1 k0
+  step-none p h = absurd (omega arith)
+
+  -- one bit more
+  pub step-bit : (i : ℕ) → StepAt bytes at1 at0 i k1 k0 → k1 + ones (bitsFrom bytes (8 * at1) i) ≤ k0 + ones (bitsFrom bytes (8 * at0) i) → StepAt bytes at1 at0 (i + 1) k1 k0
+  step-bit i all here = below-more (λ p. k1 + ones (bitsFrom bytes (8 * at1) p) ≤ k0 + ones (bitsFrom bytes (8 * at0) p)) i all here
+
+  -- n bits in which R1 does not come to have more
+  pub step-over : (n more : ℕ) → more ≡ ones (bitsFrom bytes (8 * at1) n) → k1 + more ≤ k0 → StepAt bytes at1 at0 n k1 k0
+  step-over n more e h p l =
+      let k = n - p in
+      omega (arith, ones-cut bytes (8 * at1) p k, ap (λ m. ones (bitsFrom bytes (8 * at1) m)) (let f : p + k ≡ n = omega arith in f))
+
+  pub step-over-both : (more c : ℕ) → more ≡ ones (bitsFrom bytes (8 * at1) 64) → c ≡ ones (both (bitsFrom bytes (8 * at1) 64) (bitsFrom bytes (8 * at0) 64))
+      → k1 + more ≤ k0 + c → StepAt bytes at1 at0 64 k1 k0
+  step-over-both more c e f h p l =
+      let xs = bitsFrom bytes (8 * at1) 64 in
+      let ys = bitsFrom bytes (8 * at0) 64 in
+      omega (
+        arith,
+        shared xs ys p (bits-length bytes (8 * at1) 64 ∙ sym (bits-length bytes (8 * at0) 64)),
+        ap (λ l. ones l) (bits-take bytes (8 * at1) p 64 (omega arith)),
+        ap (λ l. ones l) (bits-take bytes (8 * at0) p 64 (omega arith)),
+      )
+
+  -- i bytes behind, n bits more
+  module _ (i c1 c0 : ℕ) (e1 : c1 ≡ k1 + ones (bitsFrom bytes (8 * at1) (8 * i))) (e0 : c0 ≡ k0 + ones (bitsFrom bytes (8 * at0) (8 * i))) where
+    pub step-join : (n m : ℕ) → 8 * i + n ≡ m → StepAt bytes at1 at0 (8 * i) k1 k0 → StepAt bytes (at1 + i) (at0 + i) n c1 c0 → StepAt bytes at1 at0 m k1 k0
+    step-join n m e before after p h = elim (decLt p (8 * i)) [
+      | yes l ↦ before p l
+      | no l ↦
+          let q = p - 8 * i in
+          let f : 8 * i + q ≡ p = omega arith in
+          omega (
+            arith,
+            after q (omega arith),
+            ones-after bytes at1 i q,
+            ones-after bytes at0 i q,
+            ap (λ k. ones (bitsFrom bytes (8 * at1) k)) f,
+            ap (λ k. ones (bitsFrom bytes (8 * at0) k)) f,
+          )
+    ]
+
+    pub step-part : (n m : ℕ) → 8 * i + n ≤ m → StepAt bytes at1 at0 m k1 k0 → StepAt bytes (at1 + i) (at0 + i) n c1 c0
+    step-part n m h all p l = omega (arith, all (8 * i + p) (omega arith), ones-after bytes at1 i p, ones-after bytes at0 i p)
 
 -- ---- what the code finds
 
 module _ (bytes : List ℕ) (zeros : ℕ) where
-  -- R1 does not have more at the end of eight bits than R0 has at their beginning
-  pub step-over : (i more : ℕ) → more ≡ ones (stringIn bytes 1 i 8) → onesTo bytes 1 i + more ≤ onesTo bytes zeros i → StepWithin bytes zeros i (i + 8)
-  step-over i more e h p l g = omega (arith, onesTo-cut bytes 1 i 8, onesTo-mono bytes 1 p (i + 8) (omega arith), onesTo-mono bytes zeros i p l)
+  -- a block
+  module _ (j n k1 k0 : ℕ) (most : n ≤ 4000) (e1 : k1 ≡ onesTo bytes 1 (4000 * j)) (e0 : k0 ≡ onesTo bytes zeros (4000 * j)) where
+    pub step-block : StepAt bytes (512 * (1 + j) + 4) (512 * (zeros + j) + 4) n k1 k0 → StepWithin bytes zeros (4000 * j) (4000 * j + n)
+    step-block s p h l =
+        let q = p - 4000 * j in
+        let f : 4000 * j + q ≡ p = omega arith in
+        omega (
+          arith,
+          s q (omega arith),
+          onesTo-block bytes 1 j q (omega arith),
+          onesTo-block bytes zeros j q (omega arith),
+          ap (onesTo bytes 1) f,
+          ap (onesTo bytes zeros) f,
+        )
+
+    pub block-step : StepWithin bytes zeros (4000 * j) (4000 * j + n) → StepAt bytes (512 * (1 + j) + 4) (512 * (zeros + j) + 4) n k1 k0
+    block-step s p h =
+        omega (arith, s (4000 * j + p) (omega arith) (omega arith), onesTo-block bytes 1 j p (omega arith), onesTo-block bytes zeros j p (omega arith))
 
   module _ (n : ℕ) where
     abbrev r1 : List Bit

@@ -1,17 +1,13 @@
 -- Bytes and words that are zero.
 use mathlib.Core.Path.{_≡_, refl, sym, ap, ap₂, _∙_}
-use mathlib.Core.Bool.{Bool, true, false}
 use mathlib.Core.List.{List}
 use Prim.Native.Nat.{ℕ, zero, suc, _+_, _*_, _/_, _%_, _≤_, _<_}
 use native.Mathlib.Decide.{ℕ-discrete}
 use native.Mathlib.Omega.{arith}
-use borrow.Author.Tests.{eqb-true, eq-eqb}
-use lib.Dec.{eqb}
 use lib.Bits.{bitOr, or-add-and, or-zero-l, and-le-l, and-le-r}
 use lib.ListN.{length, getD}
 use Rattle.theory.specs.Layout.{wordAt}
 use Rattle.theory.specs.Stages.{Header, nodesOf, marksOf, blocksNeeded}
-use Rattle.stages.specs.Says.{Says}
 use Rattle.stages.specs.Parts.{ZeroBytes}
 
 -- ---- bytes, taken together by or

@@ -2,8 +2,8 @@
 use mathlib.Core.Path.{_≡_}
 use mathlib.Core.List.{List}
 use Prim.Native.Nat.{ℕ, _+_, _*_, _/_, _%_, _≤_, _<_}
-use Rattle.meaning.specs.Strings.{I}
-use Rattle.meaning.specs.Bytes.{bitAt}
+use Rattle.meaning.specs.Strings.{I, ones}
+use Rattle.meaning.specs.Bytes.{bitAt, bitsFrom}
 use Rattle.theory.specs.Layout.{wordAt, bitPlace, samplePlace}
 use Rattle.theory.specs.Stages.{blocksOfSamples}
 use Rattle.stages.specs.Steps.{onesTo}
@@ -23,6 +23,11 @@ SampledAt bytes from first p = bitAt bytes (bitPlace first p) ≡ I → SampledH
 -- the bits from a to before b
 abbrev pub SampledWithin : List ℕ → ℕ → ℕ → ℕ → ℕ → Type 0
 SampledWithin bytes from first a b = (p : ℕ) → a ≤ p → p < b → SampledAt bytes from first p
+
+-- of n bits from byte `at` on, which i bits and k ones of their string come before: the ones that have samples
+abbrev pub PieceSampled : List ℕ → ℕ → ℕ → ℕ → ℕ → ℕ → Type 0
+PieceSampled bytes from at n i k =
+    (p : ℕ) → p < n → bitAt bytes (8 * at + p) ≡ I → SampledHere bytes from (k + ones (bitsFrom bytes (8 * at) p)) (i + p + 1)
 
 -- m ones have (m + 63) / 64 samples; zeros in the words after those
 abbrev pub RestZero : List ℕ → ℕ → ℕ → Type 0

@@ -3,19 +3,22 @@ use mathlib.Core.Bool.{Bool, true, false}
 use mathlib.Core.List.{List}
 use Prim.Native.Nat.{ℕ, _+_}
 use Rattle.meaning.specs.Image.{stringIn}
-use Rattle.theory.specs.Stages.{Ended, InStep, Kept, Sampled, zerosFrom, samplesFrom, blocksOfSamples}
+use Rattle.theory.specs.Stages.{Ended, InStep, Kept, Sampled}
 
 -- a test tells whether something holds
 abbrev pub Says : Bool → Type 0 → Type 0
 Says true P = P
 Says false P = P → ⊥
 
--- the stages behind the header, for n nodes and m marks
-pub record StringsPass (bytes : List ℕ) (n m : ℕ) : Type 0 where
-  pub ended1 : Ended m (stringIn bytes 1 0 n)
-  pub ended0 : Ended m (stringIn bytes (zerosFrom n) 0 (n + 1))
-  pub inStep : InStep (stringIn bytes 1 0 n) (stringIn bytes (zerosFrom n) 0 (n + 1))
-  pub kept1 : Kept bytes 1 (stringIn bytes 1 0 n)
-  pub kept0 : Kept bytes (zerosFrom n) (stringIn bytes (zerosFrom n) 0 (n + 1))
-  pub sampled1 : Sampled bytes (samplesFrom n) m (stringIn bytes 1 0 n)
-  pub sampled0 : Sampled bytes (samplesFrom n + blocksOfSamples m) m (stringIn bytes (zerosFrom n) 0 (n + 1))
+-- a string of n bits, from block `first` on: its blocks, and m ones
+pub record StringRight (bytes : List ℕ) (first n m : ℕ) : Type 0 where
+  pub kept : Kept bytes first (stringIn bytes first 0 n)
+  pub ended : Ended m (stringIn bytes first 0 n)
+
+-- the stages behind the header, for n nodes and m marks, where R0 begins at block z and the samples at s1 and s0
+pub record StringsPass (bytes : List ℕ) (n m z s1 s0 : ℕ) : Type 0 where
+  pub right1 : StringRight bytes 1 n m
+  pub right0 : StringRight bytes z (n + 1) m
+  pub inStep : InStep (stringIn bytes 1 0 n) (stringIn bytes z 0 (n + 1))
+  pub sampled1 : Sampled bytes s1 m (stringIn bytes 1 0 n)
+  pub sampled0 : Sampled bytes s0 m (stringIn bytes z 0 (n + 1))

@@ -82,9 +82,9 @@ returns c =
     word-ones (a .b .now) (a .at)
     (c .before .before .before .before .before .before .before .before .before .before .before .before .before .before .wide .result) (c .before .before .before .before .before .before .before .before .before .before .before .before .wide2 .result) (c .before .before .before .before .before .before .before .before .before .before .wide3 .result) (c .before .before .before .before .before .before .before .before .wide4 .result) (c .before .before .before .before .before .before .wide5 .result) (c .before .before .before .before .wide6 .result) (c .before .before .wide7 .result) (c .wide8 .result)
     bytes
-    (c .before .before .before .before .before .before .before .before .before .before .before .before .before .before .wide .ensures) (c .before .before .before .before .before .before .before .before .before .before .before .before .wide2 .ensures)
-    (c .before .before .before .before .before .before .before .before .before .before .wide3 .ensures) (c .before .before .before .before .before .before .before .before .wide4 .ensures)
-    (c .before .before .before .before .before .before .wide5 .ensures) (c .before .before .before .before .wide6 .ensures) (c .before .before .wide7 .ensures) (c .wide8 .ensures)
+    (c .before .before .before .before .before .before .before .before .before .before .before .before .before .before .wide .ensures .0) (c .before .before .before .before .before .before .before .before .before .before .before .before .wide2 .ensures .0)
+    (c .before .before .before .before .before .before .before .before .before .before .wide3 .ensures .0) (c .before .before .before .before .before .before .before .before .wide4 .ensures .0)
+    (c .before .before .before .before .before .before .wide5 .ensures .0) (c .before .before .before .before .wide6 .ensures .0) (c .before .before .wide7 .ensures .0) (c .wide8 .ensures .0)
 
 pub ones-in-word-spec : {M : Type 1} → statement M
 ones-in-word-spec =

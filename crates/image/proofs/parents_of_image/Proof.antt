@@ -1,6 +1,5 @@
 -- `image::parents_of_image` meets its contract.
-use mathlib.Core.Path.{_≡_, sym, ap, ap₂, _∙_}
-use native.Mathlib.Omega.{arith}
+use mathlib.Core.Path.{sym, ap, ap₂, _∙_}
 use Rattle.meaning.specs.Answers.{cameTo}
 use Rattle.image.specs.Checked.{answered}
 use Rattle.image.proofs.Finding.{sound-known}

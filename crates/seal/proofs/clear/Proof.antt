@@ -1,5 +1,5 @@
 -- `seal::clear` meets its contract.
-use Prim.Native.Nat.{_+_, _-_, _<_, _≤_}
+use Prim.Native.Nat.{_-_, _<_, _≤_}
 use Rattle.seal.proofs.Counting.{clear-next}
 use borrow.Author.Needs.{needs}
 use native.Mathlib.Omega.{arith}

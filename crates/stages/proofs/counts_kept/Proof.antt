@@ -7,7 +7,8 @@ use Rattle.meaning.specs.Image.{stringIn}
 use Rattle.stages.specs.Parts.{Counted}
 use Rattle.stages.proofs.Saying.{says-is}
 use Rattle.bits.proofs.Runs.{bits-ones-le}
-use Rattle.stages.proofs.Pieces.{CountedTo, no-string, string-ones-le, full-more, counted-more, counted-all, counted-last}
+use Rattle.theory.proofs.InBlocks.{no-string, string-ones-le, full-more}
+use Rattle.stages.proofs.Pieces.{CountedTo, counted-more, counted-all, counted-last}
 use Rattle.stages.proofs.counts_kept.Statement.{statement}
 use Rattle.stages.proofs.counts_kept.Tie as tie
 

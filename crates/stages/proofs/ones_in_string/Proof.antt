@@ -1,106 +1,78 @@
 -- `stages::ones_in_string` meets its contract.
-use mathlib.Core.Path.{_≡_, ap, ap₂, _∙_}
-use Prim.Native.Nat.{_+_, _-_, _*_, _/_, _%_, _≤_}
+use borrow.Author.Needs.{needs}
+use mathlib.Core.Path.{_≡_, ap}
+use Prim.Native.Nat.{_+_, _-_, _*_, _/_}
 use native.Mathlib.Omega.{arith}
 use Rattle.meaning.specs.Strings.{ones}
 use Rattle.meaning.specs.Image.{stringIn}
+use Rattle.theory.proofs.InBlocks.{string-ones-le, block-more}
 use Rattle.bits.proofs.Runs.{bits-ones-le}
-use Rattle.stages.proofs.Pieces.{no-string, string-ones-le, full-more, rest-more}
 use Rattle.stages.proofs.ones_in_string.Statement.{statement}
 use Rattle.stages.proofs.ones_in_string.Tie as tie
 
-abbrev Inv-loop : tie.InvT-loop
-Inv-loop b first n full count₀ j₀ count j = (j ≤ full) × (count ≡ ones (stringIn b first 0 (4000 * j)))
+sub-last : tie.Need-sub-last
+sub-last c = search needs
 
-abbrev μ-loop : tie.MeasureT-loop
-μ-loop b first n full count₀ j₀ count j = full - j
+add-word : tie.Need-add-word
+add-word c = search needs
 
-loop-holds : tie.Need-loop-holds Inv-loop μ-loop
-loop-holds c = (omega arith, no-string (c .before .args .b .now) (c .before .args .first))
+mul-word : tie.Need-mul-word
+mul-word c = search needs
 
-add-ones-from : tie.Need-add-ones-from Inv-loop μ-loop
-add-ones-from c = omega arith
+word-requires : tie.Need-word-requires
+word-requires c κs = search needs
 
-mul-ones-from : tie.Need-mul-ones-from Inv-loop μ-loop
-mul-ones-from c = omega arith
+add-ones-from : tie.Need-add-ones-from
+add-ones-from c = search needs
 
-add-ones-from-2 : tie.Need-add-ones-from-2 Inv-loop μ-loop
-add-ones-from-2 c = omega arith
+mul-ones-from : tie.Need-mul-ones-from
+mul-ones-from c = search needs
 
-ones-from-requires : tie.Need-ones-from-requires Inv-loop μ-loop
-ones-from-requires c κs = (omega arith, omega arith)
+add-ones-from-2 : tie.Need-add-ones-from-2
+add-ones-from-2 c = search needs
 
-add-count : tie.Need-add-count Inv-loop μ-loop
-add-count c =
-    let l = c .before .before .loop in
-    let a = c .before .before .before .before .args in
-    let j = l .j in
-    omega (arith, string-ones-le (a .b .now) (a .first) (4000 * j), bits-ones-le (a .b .now) (8 * (512 * (a .first + j) + 4)) 4000)
+mul-ones-from-2 : tie.Need-mul-ones-from-2
+mul-ones-from-2 c = search needs
 
-add-j : tie.Need-add-j Inv-loop μ-loop
-add-j c = omega arith
+sub-ones-from : tie.Need-sub-ones-from
+sub-ones-from c = search needs
 
-loop-less : tie.Need-loop-less Inv-loop μ-loop
-loop-less c = omega arith
+ones-from-requires : tie.Need-ones-from-requires
+ones-from-requires c κs = search needs
 
-loop-again : tie.Need-loop-again Inv-loop μ-loop
-loop-again c =
-    let l = c .before .before .loop in
-    let a = c .before .before .before .before .args in
-    let j = l .j in
-    (omega arith, ap₂ _+_ (l .inv .1) (c .ones-from .ensures) ∙ full-more (a .b .now) (a .first) j)
-
-returns : tie.Need-returns Inv-loop μ-loop
-returns c =
-    let l = c .before .before .loop in
-    let a = c .before .before .before .before .args in
-    l .inv .1 ∙ ap (λ k. ones (stringIn (a .b .now) (a .first) 0 k)) (let e : 4000 * l .j ≡ a .n = omega arith in e)
-
-add-ones-from-3 : tie.Need-add-ones-from-3 Inv-loop μ-loop
-add-ones-from-3 c = omega arith
-
-mul-ones-from-2 : tie.Need-mul-ones-from-2 Inv-loop μ-loop
-mul-ones-from-2 c = omega arith
-
-add-ones-from-4 : tie.Need-add-ones-from-4 Inv-loop μ-loop
-add-ones-from-4 c = omega arith
-
-ones-from-requires-2 : tie.Need-ones-from-requires-2 Inv-loop μ-loop
-ones-from-requires-2 c κs = (omega arith, omega arith)
-
-add-result : tie.Need-add-result Inv-loop μ-loop
+add-result : tie.Need-add-result
 add-result c =
-    let l = c .before .before .before .loop in
-    let a = c .before .before .before .before .before .args in
-    let j = l .j in
-    omega (arith, string-ones-le (a .b .now) (a .first) (4000 * j), bits-ones-le (a .b .now) (8 * (512 * (a .first + a .n / 4000) + 4)) (a .n % 4000))
+    let a = c .before .before .before .args in
+    let b = a .b .now in
+    let j = (a .n - 1) / 4000 in
+    omega (arith, c .before .before .before .pre .1 .1 .1 .1 j (omega arith), string-ones-le b (a .first) (4000 * j), bits-ones-le b (8 * (512 * (a .first + j) + 4)) (a .n - 4000 * j))
 
-returns-2 : tie.Need-returns-2 Inv-loop μ-loop
-returns-2 c =
-    let l = c .before .before .before .loop in
-    let ones-from2 = c .ones-from2 in
-    let a = c .before .before .before .before .before .args in
-    rest-more (a .b .now) (a .first) (a .n) (l .j) (l .count) (ones-from2 .result) (omega arith) (l .inv .1) (ones-from2 .ensures)
+returns : tie.Need-returns
+returns c =
+    let a = c .before .before .before .args in
+    let b = a .b .now in
+    let j = (a .n - 1) / 4000 in
+    let k = a .n - 4000 * j in
+    omega (
+      arith,
+      c .before .before .before .pre .1 .1 .1 .1 j (omega arith),
+      block-more b (a .first) j k (omega arith),
+      ap (λ m. ones (stringIn b (a .first) 0 m)) (let e : 4000 * j + k ≡ a .n = omega arith in e),
+    )
 
 pub ones-in-string-spec : {M : Type 1} → statement M
 ones-in-string-spec =
     tie.close
     (tie.spec
-    Inv-loop
-    μ-loop
-    loop-holds
+    sub-last
+    add-word
+    mul-word
+    word-requires
     add-ones-from
     mul-ones-from
     add-ones-from-2
-    ones-from-requires
-    add-count
-    add-j
-    loop-less
-    loop-again
-    returns
-    add-ones-from-3
     mul-ones-from-2
-    add-ones-from-4
-    ones-from-requires-2
+    sub-ones-from
+    ones-from-requires
     add-result
-    returns-2)
+    returns)

@@ -1,18 +1,17 @@
 -- `stages::samples_right` meets its contract.
 use native.Mathlib.Omega.{arith}
-use borrow.Author.Tests.{not-true, not-false}
 use Rattle.meaning.specs.Image.{stringIn}
 use Rattle.theory.specs.Stages.{Sampled}
 use Rattle.stages.specs.Samples.{SampledWithin, RestZero}
 use Rattle.stages.proofs.Stepping.{onesTo-le}
 use Rattle.stages.proofs.Saying.{says-held, says-missed, says-same}
 use Rattle.stages.proofs.Sampling.{sampled, sampled-within, sampled-rest}
-use borrow.Author.Needs.{needs}
 use Rattle.stages.proofs.samples_right.Statement.{statement}
 use Rattle.stages.proofs.samples_right.Tie as tie
 
 all-sampled-requires : tie.Need-all-sampled-requires
-all-sampled-requires c κs = search needs
+all-sampled-requires c κs =
+    (omega arith, (omega arith, (omega arith, (omega arith, (omega arith, (omega arith, c .before .pre .1 .1 .1 .1 .1 .1 .1))))))
 
 returns : tie.Need-returns
 returns c =

@@ -2,7 +2,6 @@
 use Prim.Native.Nat.{_+_, _-_, _*_, _/_}
 use native.Mathlib.Omega.{arith}
 use borrow.Author.Needs.{needs}
-use borrow.Author.Tests.{not-true, not-false}
 use Rattle.meaning.specs.Image.{stringIn}
 use Rattle.theory.specs.Stages.{Kept}
 use Rattle.stages.specs.Parts.{Counted, Unused}

@@ -1,99 +1,88 @@
 -- `stages::strings_pass` meets its contract.
-use mathlib.Core.Path.{sym, ap₂, subst}
-use Prim.Native.Nat.{_+_}
-use Rattle.meaning.specs.Image.{stringIn}
-use Rattle.theory.specs.Stages.{Ended, InStep, Kept, Sampled, zerosFrom}
-use Rattle.stages.specs.Says.{Says}
-use Rattle.stages.proofs.Saying.{says-same, says-held, says-missed}
 use borrow.Author.Needs.{needs}
+use mathlib.Core.Path.{sym}
+use Prim.Native.Nat.{_+_}
+use native.Mathlib.Omega.{arith}
+use Rattle.stages.proofs.Blanks.{kept-counts}
+use Rattle.stages.proofs.Saying.{says-held, says-missed, says-same}
 use Rattle.stages.proofs.strings_pass.Statement.{statement}
 use Rattle.stages.proofs.strings_pass.Tie as tie
 
-zeros-from-requires : tie.Need-zeros-from-requires
-zeros-from-requires c κs = search needs
-
-samples-from-requires : tie.Need-samples-from-requires
-samples-from-requires c κs = search needs
-
-string-ended-requires : tie.Need-string-ended-requires
-string-ended-requires c κs = search needs
+string-right-requires : tie.Need-string-right-requires
+string-right-requires c κs = (omega arith, (omega arith, (omega arith, omega arith)))
 
 returns : tie.Need-returns
-returns c = λ p. says-missed (c .before .string-ended .result) _ (c .before .string-ended .ensures) (c .if1 .taken) (p .ended1)
+returns c = λ s. says-missed (c .before .string-right .result) _ (c .before .string-right .ensures) (c .if1 .taken) (s .right1)
 
-add-string-ended : tie.Need-add-string-ended
-add-string-ended c = search needs
+add-string-right : tie.Need-add-string-right
+add-string-right c = search needs
 
-string-ended-requires-2 : tie.Need-string-ended-requires-2
-string-ended-requires-2 c κs = search needs
+string-right-requires-2 : tie.Need-string-right-requires-2
+string-right-requires-2 c κs = (omega arith, (omega arith, (omega arith, omega arith)))
 
 returns-2 : tie.Need-returns-2
-returns-2 c = λ p. says-missed (c .before .string-ended2 .result) _ (subst (λ z. Says (c .before .string-ended2 .result) (Ended (c .before .before .before .before .before .before .before .args .m) (stringIn (c .before .before .before .before .before .before .before .args .b .now) z 0 ((c .before .before .before .before .before .before .before .args .n) + 1)))) (c .before .before .before .before .before .zeros-from .ensures) (c .before .string-ended2 .ensures)) (c .if2 .taken) (p .ended0)
+returns-2 c = λ s. says-missed (c .before .string-right2 .result) _ (c .before .string-right2 .ensures) (c .if2 .taken) (s .right0)
 
 in-step-requires : tie.Need-in-step-requires
-in-step-requires c κs = search needs
+in-step-requires c κs =
+    let a = c .before .before .before .before .before .args in
+    let b = a .b .now in
+    let right1 = says-held (c .before .before .before .string-right .result) _ (c .before .before .before .string-right .ensures) (c .before .before .if1 .left) in
+    let right0 = says-held (c .before .string-right2 .result) _ (c .before .string-right2 .ensures) (c .if2 .left) in
+    let counted1 = kept-counts b 1 (a .n) (omega arith) (right1 .kept) in
+    let counted0 = kept-counts b (a .zeros) (a .n + 1) (omega arith) (right0 .kept) in
+    (omega arith, (omega arith, (c .before .before .before .before .before .pre .1 .1 .0, (omega arith, (counted1, counted0)))))
 
 returns-3 : tie.Need-returns-3
-returns-3 c = λ p. says-missed (c .before .in-step .result) _ (subst (λ z. Says (c .before .in-step .result) (InStep (stringIn (c .before .before .before .before .before .before .before .before .before .args .b .now) 1 0 (c .before .before .before .before .before .before .before .before .before .args .n)) (stringIn (c .before .before .before .before .before .before .before .before .before .args .b .now) z 0 ((c .before .before .before .before .before .before .before .before .before .args .n) + 1)))) (c .before .before .before .before .before .before .before .zeros-from .ensures) (c .before .in-step .ensures)) (c .if3 .taken) (p .inStep)
-
-string-kept-requires : tie.Need-string-kept-requires
-string-kept-requires c κs = search needs
-
-returns-4 : tie.Need-returns-4
-returns-4 c = λ p. says-missed (c .before .string-kept .result) _ (c .before .string-kept .ensures) (c .if4 .taken) (p .kept1)
-
-add-string-kept : tie.Need-add-string-kept
-add-string-kept c = search needs
-
-string-kept-requires-2 : tie.Need-string-kept-requires-2
-string-kept-requires-2 c κs = search needs
-
-returns-5 : tie.Need-returns-5
-returns-5 c = λ p. says-missed (c .before .string-kept2 .result) _ (subst (λ z. Says (c .before .string-kept2 .result) (Kept (c .before .before .before .before .before .before .before .before .before .before .before .before .before .args .b .now) z (stringIn (c .before .before .before .before .before .before .before .before .before .before .before .before .before .args .b .now) z 0 ((c .before .before .before .before .before .before .before .before .before .before .before .before .before .args .n) + 1)))) (c .before .before .before .before .before .before .before .before .before .before .before .zeros-from .ensures) (c .before .string-kept2 .ensures)) (c .if5 .taken) (p .kept0)
+returns-3 c = λ s. says-missed (c .before .in-step .result) _ (c .before .in-step .ensures) (c .if3 .taken) (s .inStep)
 
 samples-right-requires : tie.Need-samples-right-requires
-samples-right-requires c κs = let q = sym (says-held (c .before .before .before .before .before .before .before .before .before .string-ended .result) _ (c .before .before .before .before .before .before .before .before .before .string-ended .ensures) (c .before .before .before .before .before .before .before .before .if1 .left) .count) in search (needs, q)
+samples-right-requires c κs =
+    let a = c .before .before .before .before .before .before .before .args in
+    let b = a .b .now in
+    let right1 = says-held (c .before .before .before .before .before .string-right .result) _ (c .before .before .before .before .before .string-right .ensures) (c .before .before .before .before .if1 .left) in
+    let right0 = says-held (c .before .before .before .string-right2 .result) _ (c .before .before .before .string-right2 .ensures) (c .before .before .if2 .left) in
+    let counted1 = kept-counts b 1 (a .n) (omega arith) (right1 .kept) in
+    let counted0 = kept-counts b (a .zeros) (a .n + 1) (omega arith) (right0 .kept) in
+    (omega arith, (omega arith, (sym (right1 .ended .count), (omega arith, (omega arith, (omega arith, (omega arith, counted1)))))))
 
-returns-6 : tie.Need-returns-6
-returns-6 c = λ p. says-missed (c .before .samples-right .result) _ (subst (λ z. Says (c .before .samples-right .result) (Sampled (c .before .before .before .before .before .before .before .before .before .before .before .before .before .before .before .args .b .now) z (c .before .before .before .before .before .before .before .before .before .before .before .before .before .before .before .args .m) (stringIn (c .before .before .before .before .before .before .before .before .before .before .before .before .before .before .before .args .b .now) 1 0 (c .before .before .before .before .before .before .before .before .before .before .before .before .before .before .before .args .n)))) (c .before .before .before .before .before .before .before .before .before .before .before .before .samples-from .ensures) (c .before .samples-right .ensures)) (c .if6 .taken) (p .sampled1)
-
-sample-blocks-requires : tie.Need-sample-blocks-requires
-sample-blocks-requires c κs = search needs
+returns-4 : tie.Need-returns-4
+returns-4 c = λ s. says-missed (c .before .samples-right .result) _ (c .before .samples-right .ensures) (c .if4 .taken) (s .sampled1)
 
 add-samples-right : tie.Need-add-samples-right
 add-samples-right c = search needs
 
-add-samples-right-2 : tie.Need-add-samples-right-2
-add-samples-right-2 c = search needs
-
 samples-right-requires-2 : tie.Need-samples-right-requires-2
-samples-right-requires-2 c κs = let q = sym (says-held (c .before .before .before .before .before .before .before .before .before .before .string-ended2 .result) _ (c .before .before .before .before .before .before .before .before .before .before .string-ended2 .ensures) (c .before .before .before .before .before .before .before .before .before .if2 .left) .count) in search (needs, q)
+samples-right-requires-2 c κs =
+    let a = c .before .before .before .before .before .before .before .before .before .args in
+    let b = a .b .now in
+    let right1 = says-held (c .before .before .before .before .before .before .before .string-right .result) _ (c .before .before .before .before .before .before .before .string-right .ensures) (c .before .before .before .before .before .before .if1 .left) in
+    let right0 = says-held (c .before .before .before .before .before .string-right2 .result) _ (c .before .before .before .before .before .string-right2 .ensures) (c .before .before .before .before .if2 .left) in
+    let counted1 = kept-counts b 1 (a .n) (omega arith) (right1 .kept) in
+    let counted0 = kept-counts b (a .zeros) (a .n + 1) (omega arith) (right0 .kept) in
+    (omega arith, (omega arith, (sym (right0 .ended .count), (omega arith, (omega arith, (omega arith, (omega arith, counted0)))))))
 
-returns-7 : tie.Need-returns-7
-returns-7 c = says-same (c .samples-right2 .result) _ _ (λ s. record { ended1 = says-held (c .before .before .before .before .before .before .before .before .before .before .before .before .before .string-ended .result) _ (c .before .before .before .before .before .before .before .before .before .before .before .before .before .string-ended .ensures) (c .before .before .before .before .before .before .before .before .before .before .before .before .if1 .left); ended0 = says-held (c .before .before .before .before .before .before .before .before .before .before .before .string-ended2 .result) _ (subst (λ z. Says (c .before .before .before .before .before .before .before .before .before .before .before .string-ended2 .result) (Ended (c .before .before .before .before .before .before .before .before .before .before .before .before .before .before .before .before .before .args .m) (stringIn (c .before .before .before .before .before .before .before .before .before .before .before .before .before .before .before .before .before .args .b .now) z 0 ((c .before .before .before .before .before .before .before .before .before .before .before .before .before .before .before .before .before .args .n) + 1)))) (c .before .before .before .before .before .before .before .before .before .before .before .before .before .before .before .zeros-from .ensures) (c .before .before .before .before .before .before .before .before .before .before .before .string-ended2 .ensures)) (c .before .before .before .before .before .before .before .before .before .before .if2 .left); inStep = says-held (c .before .before .before .before .before .before .before .before .before .in-step .result) _ (subst (λ z. Says (c .before .before .before .before .before .before .before .before .before .in-step .result) (InStep (stringIn (c .before .before .before .before .before .before .before .before .before .before .before .before .before .before .before .before .before .args .b .now) 1 0 (c .before .before .before .before .before .before .before .before .before .before .before .before .before .before .before .before .before .args .n)) (stringIn (c .before .before .before .before .before .before .before .before .before .before .before .before .before .before .before .before .before .args .b .now) z 0 ((c .before .before .before .before .before .before .before .before .before .before .before .before .before .before .before .before .before .args .n) + 1)))) (c .before .before .before .before .before .before .before .before .before .before .before .before .before .before .before .zeros-from .ensures) (c .before .before .before .before .before .before .before .before .before .in-step .ensures)) (c .before .before .before .before .before .before .before .before .if3 .left); kept1 = says-held (c .before .before .before .before .before .before .before .string-kept .result) _ (c .before .before .before .before .before .before .before .string-kept .ensures) (c .before .before .before .before .before .before .if4 .left); kept0 = says-held (c .before .before .before .before .before .string-kept2 .result) _ (subst (λ z. Says (c .before .before .before .before .before .string-kept2 .result) (Kept (c .before .before .before .before .before .before .before .before .before .before .before .before .before .before .before .before .before .args .b .now) z (stringIn (c .before .before .before .before .before .before .before .before .before .before .before .before .before .before .before .before .before .args .b .now) z 0 ((c .before .before .before .before .before .before .before .before .before .before .before .before .before .before .before .before .before .args .n) + 1)))) (c .before .before .before .before .before .before .before .before .before .before .before .before .before .before .before .zeros-from .ensures) (c .before .before .before .before .before .string-kept2 .ensures)) (c .before .before .before .before .if5 .left); sampled1 = says-held (c .before .before .before .samples-right .result) _ (subst (λ z. Says (c .before .before .before .samples-right .result) (Sampled (c .before .before .before .before .before .before .before .before .before .before .before .before .before .before .before .before .before .args .b .now) z (c .before .before .before .before .before .before .before .before .before .before .before .before .before .before .before .before .before .args .m) (stringIn (c .before .before .before .before .before .before .before .before .before .before .before .before .before .before .before .before .before .args .b .now) 1 0 (c .before .before .before .before .before .before .before .before .before .before .before .before .before .before .before .before .before .args .n)))) (c .before .before .before .before .before .before .before .before .before .before .before .before .before .before .samples-from .ensures) (c .before .before .before .samples-right .ensures)) (c .before .before .if6 .left); sampled0 = s }) (λ p. p .sampled0) (subst (λ z. Says (c .samples-right2 .result) (Sampled (c .before .before .before .before .before .before .before .before .before .before .before .before .before .before .before .before .before .args .b .now) z (c .before .before .before .before .before .before .before .before .before .before .before .before .before .before .before .before .before .args .m) (stringIn (c .before .before .before .before .before .before .before .before .before .before .before .before .before .before .before .before .before .args .b .now) (zerosFrom (c .before .before .before .before .before .before .before .before .before .before .before .before .before .before .before .before .before .args .n)) 0 ((c .before .before .before .before .before .before .before .before .before .before .before .before .before .before .before .before .before .args .n) + 1)))) (ap₂ _+_ (c .before .before .before .before .before .before .before .before .before .before .before .before .before .before .samples-from .ensures) (c .before .sample-blocks .ensures)) (subst (λ z. Says (c .samples-right2 .result) (Sampled (c .before .before .before .before .before .before .before .before .before .before .before .before .before .before .before .before .before .args .b .now) (c .before .before .before .before .before .before .before .before .before .before .before .before .before .before .samples-from .result + c .before .sample-blocks .result) (c .before .before .before .before .before .before .before .before .before .before .before .before .before .before .before .before .before .args .m) (stringIn (c .before .before .before .before .before .before .before .before .before .before .before .before .before .before .before .before .before .args .b .now) z 0 ((c .before .before .before .before .before .before .before .before .before .before .before .before .before .before .before .before .before .args .n) + 1)))) (c .before .before .before .before .before .before .before .before .before .before .before .before .before .before .before .zeros-from .ensures) (c .samples-right2 .ensures)))
+returns-5 : tie.Need-returns-5
+returns-5 c =
+    let right1 = says-held (c .before .before .before .before .before .before .before .before .string-right .result) _ (c .before .before .before .before .before .before .before .before .string-right .ensures) (c .before .before .before .before .before .before .before .if1 .left) in
+    let right0 = says-held (c .before .before .before .before .before .before .string-right2 .result) _ (c .before .before .before .before .before .before .string-right2 .ensures) (c .before .before .before .before .before .if2 .left) in
+    let inStep = says-held (c .before .before .before .before .in-step .result) _ (c .before .before .before .before .in-step .ensures) (c .before .before .before .if3 .left) in
+    let sampled1 = says-held (c .before .before .samples-right .result) _ (c .before .before .samples-right .ensures) (c .before .if4 .left) in
+    says-same (c .samples-right2 .result) _ _ (λ s. record { right1 = right1; right0 = right0; inStep = inStep; sampled1 = sampled1; sampled0 = s }) (λ s. s .sampled0) (c .samples-right2 .ensures)
 
 pub strings-pass-spec : {M : Type 1} → statement M
 strings-pass-spec =
     tie.close
     (tie.spec
-    zeros-from-requires
-    samples-from-requires
-    string-ended-requires
+    string-right-requires
     returns
-    add-string-ended
-    string-ended-requires-2
+    add-string-right
+    string-right-requires-2
     returns-2
     in-step-requires
     returns-3
-    string-kept-requires
-    returns-4
-    add-string-kept
-    string-kept-requires-2
-    returns-5
     samples-right-requires
-    returns-6
-    sample-blocks-requires
+    returns-4
     add-samples-right
-    add-samples-right-2
     samples-right-requires-2
-    returns-7)
+    returns-5)
