@@ -108,12 +108,13 @@ pub fn wrong_block(b: &[u8], blocks: usize) -> usize
     requires { ⌜ blocks ≤ 53 ⌝ }
     ensures { λ r. ⌜ r ≡ wrongBlock (now (b .entry)) ⌝ }
 {
-    let mut i: usize = 0;
-    while i < blocks {
+    let mut left = blocks;
+    while 0 < left {
+        let i = blocks - left;
         if !sums_right(b, i) {
             return i;
         }
-        i += 1;
+        left -= 1;
     }
     blocks
 }

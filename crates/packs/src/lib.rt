@@ -71,16 +71,16 @@ fn write_parts(b: &[u8], n: usize, firsts: &mut [u32], counts: &mut [u32])
     ensures { λ _. ⌜ now (counts .exit) ≡ written (sizes (bitsFrom (now (b .entry)) 0 n)) (now (counts .entry)) ⌝ }
 {
     let mut k: usize = 0;
-    let mut at: usize = 0;
-    while at < n {
-        let end = tree_end(b, n, at);
+    let mut here: usize = 0;
+    while here < n {
+        let end = tree_end(b, n, here);
         let TreeEnd::Over { next, size } = end else {
             return;
         };
-        firsts[k] = (at + 1) as u32;
+        firsts[k] = (here + 1) as u32;
         counts[k] = size as u32;
         k += 1;
-        at = next;
+        here = next;
     }
 }
 

@@ -20,6 +20,13 @@ pub fn asked(text: &[u8]) {
     io::write_all(1, b"\n");
 }
 
+// The beginning of a line: the case, and what of it.
+pub fn about(name: &[u8], what: &[u8]) {
+    io::write_all(1, name);
+    io::write_all(1, b" ");
+    io::write_all(1, what);
+}
+
 // Code, place and the two counts.
 pub fn answered(a: Answer) {
     io::write_all(1, b"  answer");

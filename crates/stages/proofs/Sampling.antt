@@ -25,7 +25,7 @@ use Rattle.stages.proofs.Stepping.{onesTo-take, onesTo-next, onesTo-mon
 -- ---- one sample
 
 -- a one that k ones come before is one number k + 1
-place-of-one : (r : List Bit) (i : ℕ) → i < length r → getD r i O ≡ I → position r (suc (ones (take i r))) ≡ suc i
+pub place-of-one : (r : List Bit) (i : ℕ) → i < length r → getD r i O ≡ I → position r (suc (ones (take i r))) ≡ suc i
 place-of-one [] i h e = absurd (omega arith)
 place-of-one (O ∷ r) zero h e = I≢O (sym e)
 place-of-one (I ∷ r) zero h e = ap suc (position-zero r)
@@ -40,7 +40,7 @@ sample-of-one r i q h e c l =
     ∙ place-of-one r i h e ∙ sym (add-one i)
 
 -- each one that the string has
-one-there : (r : List Bit) (k : ℕ) → k < ones r → (p : ℕ) × (p < length r) × (getD r p O ≡ I) × (ones (take p r) ≡ k)
+pub one-there : (r : List Bit) (k : ℕ) → k < ones r → (p : ℕ) × (p < length r) × (getD r p O ≡ I) × (ones (take p r) ≡ k)
 one-there [] k h = absurd (omega arith)
 one-there (O ∷ r) k h = let o = one-there r k h in (suc (o .0), omega (arith, o .1), o .2, o .3)
 one-there (I ∷ r) zero h = (0, omega arith, refl, refl)
@@ -186,7 +186,7 @@ module _ (bytes : List ℕ) (from first n m : ℕ) (count : m ≡ onesTo bytes f
           (let e : j ≡ (126 * j + w) / 126 = omega arith in e) (let e : w ≡ (126 * j + w) % 126 = omega arith in e)
 
   -- word q of the blocks
-  word-at : Sampled bytes from m r → (q : ℕ) → q < 126 * blocksOfSamples m → sampleIn bytes from q ≡ getD (samples r) q 0
+  pub word-at : Sampled bytes from m r → (q : ℕ) → q < 126 * blocksOfSamples m → sampleIn bytes from q ≡ getD (samples r) q 0
   unfolding sampleWord
   word-at s q h =
       s (q / 126) (q % 126) (omega arith) (omega arith) ∙ ap (λ j. getD (samples r) j 0) (let e : 126 * (q / 126) + q % 126 ≡ q = omega arith in e)

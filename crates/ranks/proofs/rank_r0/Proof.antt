@@ -1,0 +1,30 @@
+-- `ranks::rank_r0` meets its contract.
+use Rattle.theory.specs.Rank.{onesLeft}
+use Rattle.ranks.proofs.Strings.{in-r0, ready0}
+use borrow.Author.Needs.{needs}
+use Rattle.ranks.proofs.rank_r0.Statement.{statement}
+use Rattle.ranks.proofs.rank_r0.Tie as tie
+
+cast-rank : tie.Need-cast-rank
+cast-rank c = search needs
+
+cast-rank-2 : tie.Need-cast-rank-2
+cast-rank-2 c = search needs
+
+add-rank : tie.Need-add-rank
+add-rank c = search needs
+
+rank-requires : tie.Need-rank-requires
+rank-requires c κs =
+    let s = c .before .before .before in
+    let r = ready0 (s .args .b .now) (s .args .image) (s .pre .0) in
+    (s .pre .1 .0, (s .pre .1 .1, (r .most, (r .near, (r .room, r .kept)))))
+
+returns : tie.Need-returns
+returns c =
+    let s = c .before .before .before .before in
+    let a = s .args in
+    in-r0 (a .b .now) (a .image) (s .pre .0) (λ r. onesLeft r (a .x)) (c .rank .result) (c .rank .ensures)
+
+pub rank-r0-spec : {M : Type 1} → statement M
+rank-r0-spec = tie.close (tie.spec cast-rank cast-rank-2 add-rank rank-requires returns)
