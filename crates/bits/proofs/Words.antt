@@ -2,7 +2,7 @@
 use mathlib.Core.Path.{_≡_, refl, sym, ap, ap₂, _∙_}
 use mathlib.Core.Bool.{Bool}
 use mathlib.Core.List.{List, [], _∷_, _++_}
-use Prim.Native.Nat.{ℕ, suc, _+_, _-_, _*_, _/_, _^_, _<_}
+use Prim.Native.Nat.{ℕ, suc, _+_, _-_, _*_, _/_, _%_, _^_, _<_, _≤_}
 use native.Mathlib.Nat.{mul-assoc, add-mul}
 use native.Mathlib.Omega.{arith}
 use lib.Bits.{bitAnd, and-block, and-zero-l}
@@ -15,6 +15,7 @@ use Rattle.meaning.specs.Strings.{Bit, O, I, ones}
 use Rattle.meaning.specs.Bytes.{bit, bitAt, bitsFrom, number, value}
 use Rattle.theory.specs.Layout.{AreBytes}
 use Rattle.theory.proofs.Digits.{number-lt, byte-lt}
+use Rattle.theory.proofs.Payloads.{ones-le}
 use Rattle.theory.proofs.Packing.{bits-length, bits-cut, bits-of-byte}
 use Rattle.bits.specs.Appended.{byteBits}
 use Rattle.bits.specs.Both.{both}
@@ -123,6 +124,31 @@ module _ (bytes : List ℕ) where
       ∙ high (number n (bitsFrom bytes p n)) k (number-lt k (bitsFrom bytes (p + n) k))
       )
       ∙ bits-ones p n
+
+  -- up to bit p, and that bit
+  pub ending-ones : (q p w : ℕ) → p < 64 → w ≡ number 64 (bitsFrom bytes q 64)
+      → (w / 2 ^ (63 - p) ≡ number (p + 1) (bitsFrom bytes q (p + 1))) × (w / 2 ^ (63 - p) % 2 ≡ value (bitAt bytes (q + p)))
+      × (count.ones (w / 2 ^ (63 - p)) ≡ ones (bitsFrom bytes q (p + 1)))
+  unfolding bitsFrom number value
+  ending-ones q p w h e =
+      let k = 63 - p in
+      let front : w / 2 ^ k ≡ number (p + 1) (bitsFrom bytes q (p + 1)) =
+      ap (λ x. x / 2 ^ k) (e ∙ ap (λ j. number j (bitsFrom bytes q j)) (let f : 64 ≡ p + 1 + k = omega arith in f) ∙ number-cut q (p + 1) k)
+      ∙ high (number (p + 1) (bitsFrom bytes q (p + 1))) k (number-lt k (bitsFrom bytes (q + (p + 1)) k)) in
+      (front, ap (λ x. x % 2) (front ∙ number-cut q p 1) ∙ last (number p (bitsFrom bytes q p)) (bitAt bytes (q + p)), ap count.ones front ∙ bits-ones q (p + 1))
+    where
+      last : (a : ℕ) (x : Bit) → (a * 2 ^ 1 + (value x * 2 ^ 0 + 0)) % 2 ≡ value x
+      last a O = omega arith
+      last a I = omega arith
+
+  -- at most all of them
+  pub ending-le : (q p r : ℕ) → p < 64 → r ≡ value (bitAt bytes (q + p)) * ones (bitsFrom bytes q (p + 1)) → r ≤ 64
+  unfolding value
+  ending-le q p r h e = go (bitAt bytes (q + p)) e
+    where
+      go : (x : Bit) → r ≡ value x * ones (bitsFrom bytes q (p + 1)) → r ≤ 64
+      go O f = omega arith
+      go I f = omega (arith, ones-le (bitsFrom bytes q (p + 1)), bits-length bytes q (p + 1))
 
   pub both-ones : (p q v w : ℕ) → v ≡ number 64 (bitsFrom bytes p 64) → w ≡ number 64 (bitsFrom bytes q 64)
       → count.ones (bitAnd v w) ≡ ones (both (bitsFrom bytes p 64) (bitsFrom bytes q 64))

@@ -155,6 +155,17 @@ pub fn ones_before(b: &[u8], at: usize, n: usize) -> u32
     u64::count_ones((whole_word(b, at) >> 1) >> (63 - n))
 }
 
+// How many of the bits from byte `at` on up to the one that p come before are one, if that one is; else 0.
+pub fn ones_ending(b: &[u8], at: usize, p: usize) -> u32
+    requires { ⌜ p < 64 ⌝ }
+    requires { do ⌜ at + 8 ≤ (← ⟦b.len()⟧) ⌝ }
+    ensures { λ r. ⌜ r ≡ value (bitAt (now (b .entry)) (8 * at + p)) * ones (bitsFrom (now (b .entry)) (8 * at) (p + 1)) ⌝ }
+{
+    // a product, not a branch on the bit
+    let x = whole_word(b, at) >> (63 - p);
+    (x % 2) as u32 * u64::count_ones(x)
+}
+
 // At how many of 64 places both the bits from byte `at` on and those from byte `other` on are one.
 pub fn ones_in_both(b: &[u8], at: usize, other: usize) -> u32
     requires { do ⌜ at + 8 ≤ (← ⟦b.len()⟧) ⌝ }

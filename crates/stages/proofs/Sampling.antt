@@ -103,8 +103,26 @@ module _ (bytes : List ℕ) (from at n i k more s : ℕ) (few : n ≤ 64) (is : 
         let e : o .0 ≡ place - i - 1 = omega (arith, o .3) in
         (omega (arith, o .3), omega (arith, o .3, o .4), ap (λ p. bitAt bytes (8 * at + p)) (sym e) ∙ o .1, ap (λ p. k + ones (bitsFrom bytes (8 * at) p)) (sym e) ∙ o .2)
 
-    pub told-right : i < place → bitAt bytes (8 * at + (place - i - 1)) ≡ I → k + ones (bitsFrom bytes (8 * at) (place - i - 1)) ≡ 64 * s → PieceSampled bytes from at n i k
+    told-right : i < place → bitAt bytes (8 * at + (place - i - 1)) ≡ I → k + ones (bitsFrom bytes (8 * at) (place - i - 1)) ≡ 64 * s → PieceSampled bytes from at n i k
     told-right h e c = piece-right (place - i - 1) e c (sym read ∙ (let f : place ≡ i + (place - i - 1) + 1 = omega arith in f))
+
+    -- the ones up to it, if it is one, are 64 s + 1 with those before the piece
+    module _ (r : ℕ) (inside : i < place) (count : r ≡ value (bitAt bytes (8 * at + (place - i - 1))) * ones (bitsFrom bytes (8 * at) (place - i - 1 + 1))) where
+      pub counted-right : k + r ≡ 64 * s + 1 → PieceSampled bytes from at n i k
+      unfolding value
+      counted-right e = go (bitAt bytes (8 * at + (place - i - 1))) refl
+        where
+          go : (x : Bit) → bitAt bytes (8 * at + (place - i - 1)) ≡ x → PieceSampled bytes from at n i k
+          go O f = absurd (omega (arith, ap (λ x. value x * ones (bitsFrom bytes (8 * at) (place - i - 1 + 1))) f))
+          go I f =
+              told-right inside f
+              (omega (arith, ap (λ x. value x * ones (bitsFrom bytes (8 * at) (place - i - 1 + 1))) f, one-more bytes at (place - i - 1) f))
+
+      pub right-counted : PieceSampled bytes from at n i k → k + r ≡ 64 * s + 1
+      unfolding value
+      right-counted all =
+          let o = told all in
+          omega (arith, o .3, ap (λ x. value x * ones (bitsFrom bytes (8 * at) (place - i - 1 + 1))) (o .2), one-more bytes at (place - i - 1) (o .2))
 
 -- the same said of a place, a count and a position that are equal
 moved : (bytes : List ℕ) (from a z x b y w : ℕ) → a ≡ b → z ≡ y → x ≡ w

@@ -12,6 +12,7 @@ ghost use Rattle.stages.specs.Steps.{StepAt, StepWithin, onesTo};
 ghost use Rattle.stages.specs.Samples.{PieceSampled, RestZero, SampledWithin};
 use bits::bit_at;
 use bits::ones_before;
+use bits::ones_ending;
 use bits::ones_from;
 use bits::ones_in_both;
 use bits::ones_in_byte;
@@ -356,12 +357,8 @@ fn piece_sampled(
     if i + n < place {
         return false;
     }
-    // the sample is right exactly if it names a one that 64 s others come before
-    let p = place - i - 1;
-    if bit_at(b, 8 * at + p) == 0 {
-        return false;
-    }
-    k + ones_before(b, at, p) as usize == 64 * s
+    // the sample is right exactly if it names one number 64 s + 1
+    k + ones_ending(b, at, place - i - 1) as usize == 64 * s + 1
 }
 
 // The same of n bits of a block: pieces of eight bytes, and what is left.

@@ -1,14 +1,13 @@
 -- `stages::piece_sampled` meets its contract.
 use borrow.Author.Needs.{needs}
-use mathlib.Core.Path.{refl, sym, _∙_}
+use mathlib.Core.Path.{refl}
 use Prim.Native.Nat.{_+_, _-_, _*_, _/_}
 use native.Mathlib.Omega.{arith}
-use Rattle.theory.proofs.Bits.{I≢O}
-use Rattle.bits.proofs.Values.{is-O, is-I}
-use Rattle.stages.specs.Samples.{PieceSampled}
 use Rattle.bits.proofs.Runs.{bits-ones-le}
+use Rattle.bits.proofs.Words.{ending-le}
+use Rattle.stages.specs.Samples.{PieceSampled}
 use Rattle.stages.proofs.Saying.{says-is}
-use Rattle.stages.proofs.Sampling.{piece-none, told, told-right}
+use Rattle.stages.proofs.Sampling.{piece-none, told, counted-right, right-counted}
 use Rattle.stages.proofs.piece_sampled.Statement.{statement}
 use Rattle.stages.proofs.piece_sampled.Tie as tie
 
@@ -51,43 +50,33 @@ add-if3 c = search needs
 returns-3 : tie.Need-returns-3
 returns-3 c = λ all. omega (arith, told (c .before .before .before .before .before .args .b .now) (c .before .before .before .before .before .args .from) (c .before .before .before .before .before .args .at) (c .before .before .before .before .before .args .n) (c .before .before .before .before .before .args .i) (c .before .before .before .before .before .args .k) (c .before .before .before .before .before .args .more) ((c .before .before .before .before .before .args .k + 63) / 64) (omega arith) (c .before .before .before .before .before .pre .1 .1 .1 .1 .1 .0) refl (c .before .before .word .result) (c .before .before .word .ensures) (omega arith) all .1)
 
-sub-p : tie.Need-sub-p
-sub-p c = search needs
+sub-ones-ending : tie.Need-sub-ones-ending
+sub-ones-ending c = search needs
 
-sub-p-2 : tie.Need-sub-p-2
-sub-p-2 c = search needs
+sub-ones-ending-2 : tie.Need-sub-ones-ending-2
+sub-ones-ending-2 c = search needs
 
-mul-bit-at : tie.Need-mul-bit-at
-mul-bit-at c = omega arith
-
-add-bit-at : tie.Need-add-bit-at
-add-bit-at c = omega arith
-
-bit-at-requires : tie.Need-bit-at-requires
-bit-at-requires c κs = search needs
-
-returns-4 : tie.Need-returns-4
-returns-4 c = λ all. I≢O (sym (told (c .before .before .before .before .before .before .before .args .b .now) (c .before .before .before .before .before .before .before .args .from) (c .before .before .before .before .before .before .before .args .at) (c .before .before .before .before .before .before .before .args .n) (c .before .before .before .before .before .before .before .args .i) (c .before .before .before .before .before .before .before .args .k) (c .before .before .before .before .before .before .before .args .more) ((c .before .before .before .before .before .before .before .args .k + 63) / 64) (omega arith) (c .before .before .before .before .before .before .before .pre .1 .1 .1 .1 .1 .0) refl (c .before .before .before .before .word .result) (c .before .before .before .before .word .ensures) (omega arith) all .2) ∙ is-O _ _ (c .before .bit-at .ensures) (c .if4 .taken))
-
-ones-before-requires : tie.Need-ones-before-requires
-ones-before-requires c κs = (omega arith, omega arith)
+ones-ending-requires : tie.Need-ones-ending-requires
+ones-ending-requires c κs = (omega arith, omega arith)
 
 cast-result : tie.Need-cast-result
 cast-result c = search needs
 
 add-result : tie.Need-add-result
-add-result c = omega (arith, bits-ones-le (c .before .before .before .before .before .before .before .before .args .b .now) (8 * c .before .before .before .before .before .before .before .before .args .at) (c .before .before .before .before .before .word .result - c .before .before .before .before .before .before .before .before .args .i - 1))
+add-result c = omega (arith, ending-le (c .before .before .before .before .before .before .args .b .now) (8 * c .before .before .before .before .before .before .args .at) (c .before .before .before .word .result - c .before .before .before .before .before .before .args .i - 1) (c .ones-ending .result) (omega arith) (c .ones-ending .ensures))
 
 mul-result : tie.Need-mul-result
 mul-result c = search needs
 
-returns-5 : tie.Need-returns-5
-returns-5 c =
-    let a = c .before .before .before .before .before .before .before .before .args in
-    let place = c .before .before .before .before .before .word .result in
-    says-is (a .k + c .ones-before .result) (64 * ((a .k + 63) / 64)) (PieceSampled (a .b .now) (a .from) (a .at) (a .n) (a .i) (a .k))
-    (λ e. told-right (c .before .before .before .before .before .before .before .before .args .b .now) (c .before .before .before .before .before .before .before .before .args .from) (c .before .before .before .before .before .before .before .before .args .at) (c .before .before .before .before .before .before .before .before .args .n) (c .before .before .before .before .before .before .before .before .args .i) (c .before .before .before .before .before .before .before .before .args .k) (c .before .before .before .before .before .before .before .before .args .more) ((c .before .before .before .before .before .before .before .before .args .k + 63) / 64) (omega arith) (c .before .before .before .before .before .before .before .before .pre .1 .1 .1 .1 .1 .0) refl place (c .before .before .before .before .before .word .ensures) (omega arith) (omega arith) (is-I _ _ (c .before .before .bit-at .ensures) (c .before .if4 .left)) (omega arith))
-    (λ all. omega (arith, told (c .before .before .before .before .before .before .before .before .args .b .now) (c .before .before .before .before .before .before .before .before .args .from) (c .before .before .before .before .before .before .before .before .args .at) (c .before .before .before .before .before .before .before .before .args .n) (c .before .before .before .before .before .before .before .before .args .i) (c .before .before .before .before .before .before .before .before .args .k) (c .before .before .before .before .before .before .before .before .args .more) ((c .before .before .before .before .before .before .before .before .args .k + 63) / 64) (omega arith) (c .before .before .before .before .before .before .before .before .pre .1 .1 .1 .1 .1 .0) refl (c .before .before .before .before .before .word .result) (c .before .before .before .before .before .word .ensures) (omega arith) all .3))
+add-result-2 : tie.Need-add-result-2
+add-result-2 c = search needs
+
+returns-4 : tie.Need-returns-4
+returns-4 c =
+    let a = c .before .before .before .before .before .before .args in
+    let r = c .ones-ending .result in
+    says-is (a .k + r) (64 * ((a .k + 63) / 64) + 1) (PieceSampled (a .b .now) (a .from) (a .at) (a .n) (a .i) (a .k))
+    (counted-right (c .before .before .before .before .before .before .args .b .now) (c .before .before .before .before .before .before .args .from) (c .before .before .before .before .before .before .args .at) (c .before .before .before .before .before .before .args .n) (c .before .before .before .before .before .before .args .i) (c .before .before .before .before .before .before .args .k) (c .before .before .before .before .before .before .args .more) ((c .before .before .before .before .before .before .args .k + 63) / 64) (omega arith) (c .before .before .before .before .before .before .pre .1 .1 .1 .1 .1 .0) refl (c .before .before .before .word .result) (c .before .before .before .word .ensures) (omega arith) r (omega arith) (c .ones-ending .ensures)) (right-counted (c .before .before .before .before .before .before .args .b .now) (c .before .before .before .before .before .before .args .from) (c .before .before .before .before .before .before .args .at) (c .before .before .before .before .before .before .args .n) (c .before .before .before .before .before .before .args .i) (c .before .before .before .before .before .before .args .k) (c .before .before .before .before .before .before .args .more) ((c .before .before .before .before .before .before .args .k + 63) / 64) (omega arith) (c .before .before .before .before .before .before .pre .1 .1 .1 .1 .1 .0) refl (c .before .before .before .word .result) (c .before .before .before .word .ensures) (omega arith) r (omega arith) (c .ones-ending .ensures))
 
 pub piece-sampled-spec : {M : Type 1} → statement M
 piece-sampled-spec =
@@ -106,14 +95,11 @@ piece-sampled-spec =
     returns-2
     add-if3
     returns-3
-    sub-p
-    sub-p-2
-    mul-bit-at
-    add-bit-at
-    bit-at-requires
-    returns-4
-    ones-before-requires
+    sub-ones-ending
+    sub-ones-ending-2
+    ones-ending-requires
     cast-result
     add-result
     mul-result
-    returns-5)
+    add-result-2
+    returns-4)
