@@ -56,15 +56,16 @@ module _ (t : Tree) (h : nodes t ≤ 65535) where
       (le-ltb (wrongBlock x) (blocksIn x) (omega (arith, b .3)))
       (is-image x .1 (t, h, refl))
 
-  tree-passed : {A : Type 0} (before : A) (rest : List Row) (a : Answer) (after : A)
-      → settle before (checkRows (image t) false ++ rest) a after ≡ settle before rest a after
-  tree-passed before rest a after = rows-checked before rest a after (image t) false refl ∙ ap (comesTo before rest a after) (sym tree-sound)
+  -- w, what else that is lent may have a wrong size, does not hold
+  pub tree-passed : (w : Bool) → w ≡ false → {A : Type 0} (before : A) (rest : List Row) (a : Answer) (after : A)
+      → settle before (checkRows (image t) w ++ rest) a after ≡ settle before rest a after
+  tree-passed w f before rest a after = rows-checked before rest a after (image t) w f ∙ ap (comesTo before rest a after) (sym tree-sound)
 
   tree-checked : checkImage (image t) ≡ cameTo (counts (nodes t) (ones (R1 (lbs t)))) tt
   unfolding checkImage checkRows
   tree-checked =
       let ps = parents-in t h in
-      tree-passed tt [] _ tt ∙ settle-none tt _ tt
+      tree-passed false refl tt [] _ tt ∙ settle-none tt _ tt
       ∙ ap₂ (λ n m. cameTo (counts n m) tt) (ap length ps ∙ length-parents t) (ap (λ qs. ones (R1 (stringOf qs))) ps ∙ ap (λ bs. ones (R1 bs)) (string-parents t))
 
   -- its image gives its parent list
@@ -73,7 +74,7 @@ module _ (t : Tree) (h : nodes t ≤ 65535) where
   tree-read out room =
       let ps = parents-in t h in
       let n = ap length ps ∙ length-parents t in
-      tree-passed out _ _ _
+      tree-passed false refl out _ _ _
       ∙ settle-on _ _ _ _ _ (le-ltb (length out) (length (parentsIn (image t))) (omega arith))
       ∙ settle-none _ _ _
       ∙ ap₂ (λ n qs. cameTo (counts n 0) (written qs out)) n ps

@@ -1,0 +1,83 @@
+-- `kinds::degree_of` meets its contract.
+use native.Mathlib.Omega.{arith}
+use Prim.Native.Nat.{_+_, _≤_}
+use Rattle.kinds.proofs.Own.{few, small1}
+use Rattle.kinds.proofs.Each.{one-more, apart, degree-none, degree-some}
+use borrow.Author.Needs.{needs}
+use Rattle.kinds.proofs.degree_of.Statement.{statement}
+use Rattle.kinds.proofs.degree_of.Tie as tie
+
+-- the one after the next is there too
+room : (c : tie.After-rank-r0) → (c .rank-r0 .result + 2 ≤ c .before .before .before .before .args .image .marks) × (c .rank-r0 .result ≤ 65535)
+room c =
+    let s = c .before .before .before .before in
+    let a = s .args in
+    let bit = c .before .before .bit-r0 in
+    let m = one-more (a .b .now) (a .image) (s .pre .0) (a .x) (s .pre .1 .0) (s .pre .1 .1) (bit .result) (bit .ensures) (c .before .if1 .left) in
+    (omega arith, omega (arith, few (a .b .now) (a .image) (s .pre .0)))
+
+bit-r0-requires : tie.Need-bit-r0-requires
+bit-r0-requires c κs = search needs
+
+returns : tie.Need-returns
+returns c =
+    let s = c .before .before .before in
+    let a = s .args in
+    degree-none (a .b .now) (a .image) (s .pre .0) (a .x) (s .pre .1 .0) (s .pre .1 .1) (c .before .bit-r0 .result) (c .before .bit-r0 .ensures) (c .if1 .taken)
+
+rank-r0-requires : tie.Need-rank-r0-requires
+rank-r0-requires c κs = search needs
+
+add-select-r1 : tie.Need-add-select-r1
+add-select-r1 c = omega (arith, room c .1)
+
+select-r1-requires : tie.Need-select-r1-requires
+select-r1-requires c κs =
+    let s = c .before .before .before .before in
+    (s .pre .0, (omega arith, omega (arith, room c .0)))
+
+add-select-r1-2 : tie.Need-add-select-r1-2
+add-select-r1-2 c = omega (arith, room (c .before) .1)
+
+select-r1-requires-2 : tie.Need-select-r1-requires-2
+select-r1-requires-2 c κs =
+    let s = c .before .before .before .before .before in
+    (s .pre .0, (omega arith, room (c .before) .0))
+
+sub-result : tie.Need-sub-result
+sub-result c =
+    let s = c .before .before .before .before .before .before in
+    let a = s .args in
+    let k = c .before .before .rank-r0 in
+    let bit = c .before .before .before .before .bit-r0 in
+    omega (arith, apart (a .b .now) (a .image) (s .pre .0) (a .x) (s .pre .1 .0) (s .pre .1 .1) (bit .result) (bit .ensures) (c .before .before .before .if1 .left) (k .result) (k .ensures))
+
+cast-result : tie.Need-cast-result
+cast-result c =
+    let s = c .before .before .before .before .before .before in
+    let a = s .args in
+    let k = c .before .before .rank-r0 in
+    omega (arith, small1 (a .b .now) (a .image) (s .pre .0) (k .result + 2))
+
+returns-2 : tie.Need-returns-2
+returns-2 c =
+    let s = c .before .before .before .before .before .before in
+    let a = s .args in
+    let k = c .before .before .rank-r0 in
+    let bit = c .before .before .before .before .bit-r0 in
+    degree-some (a .b .now) (a .image) (s .pre .0) (a .x) (s .pre .1 .0) (s .pre .1 .1) (bit .result) (bit .ensures) (c .before .before .before .if1 .left) (k .result) (c .before .select-r1 .result) (c .select-r12 .result) (k .ensures) (c .before .select-r1 .ensures) (c .select-r12 .ensures)
+
+pub degree-of-spec : {M : Type 1} → statement M
+degree-of-spec =
+    tie.close
+    (tie.spec
+    bit-r0-requires
+    returns
+    rank-r0-requires
+    add-select-r1
+    select-r1-requires
+    add-select-r1-2
+    select-r1-requires-2
+    sub-result
+    cast-result
+    returns-2)

@@ -1,0 +1,5 @@
+pub mod Levels
+pub mod Numbers
+pub mod Writing
+pub mod Calling
+pub mod Promises

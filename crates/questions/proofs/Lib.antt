@@ -1,0 +1,5 @@
+pub mod Signs
+pub mod Allowing
+pub mod Turns
+pub mod Asking
+pub mod Promises
