@@ -1,0 +1,176 @@
+//! Trees in all their forms, as the model makes them, and calls that several groups make.
+
+use crate::compare::call::Call;
+use crate::compare::comparison::{Comparison, Enough};
+use crate::compare::random::Random;
+use crate::compare::shapes::{parent_list, SHAPES};
+use crate::model::answers::number;
+use crate::model::bits::bytes_of_bits;
+use crate::model::images::image_of_tree;
+use crate::model::listing::listing_from;
+use crate::model::strings::string_of_tree;
+use crate::model::trees::Tree;
+
+/// One tree as parent list, string, bytes of the string, and image.
+pub struct Forms {
+    pub parents: Vec<u32>,
+    pub tree: Tree,
+    pub string: Vec<bool>,
+    pub bytes: Vec<u8>,
+    pub image: Vec<u8>,
+}
+
+impl Forms {
+    pub fn of(parents: Vec<u32>) -> Forms {
+        let tree = Tree::of_parent_list(&parents).expect("made as a tree");
+        let string = string_of_tree(&tree);
+        let bytes = bytes_of_bits(&string);
+        let image = image_of_tree(&tree);
+        Forms { parents, tree, string, bytes, image }
+    }
+
+    /// A tree of `n` nodes and any shape.
+    pub fn drawn(random: &mut Random, n: usize) -> Forms {
+        Forms::of(tree_of_size(random, n))
+    }
+
+    pub fn node_count(&self) -> usize {
+        self.parents.len()
+    }
+
+    /// How many numbers a listing takes; where it is too deep, as many as all nodes would.
+    pub fn numbers_listed(&self, node: usize) -> usize {
+        let nodes = listing_from(&self.tree, node).map_or(self.node_count(), |listing| listing.len());
+        2 * nodes
+    }
+}
+
+/// A parent list of `n` numbers and any shape.
+pub fn tree_of_size(random: &mut Random, n: usize) -> Vec<u32> {
+    let shape = random.pick(&SHAPES);
+    parent_list(shape, n, random)
+}
+
+/// Mostly a few nodes; sometimes around 64 ones or 126 words, or a few hundred.
+pub fn small_size(random: &mut Random) -> usize {
+    match random.below(10) {
+        0 => random.between(60, 68),
+        1 => random.between(124, 132),
+        2 => random.between(9, 400),
+        _ => random.between(1, 8),
+    }
+}
+
+/// A room for an output that needs so much: often just that, or one short, or more, or much less.
+pub fn room_near(random: &mut Random, needed: usize) -> usize {
+    match random.below(10) {
+        0 => needed.saturating_sub(1),
+        1 => needed + 1,
+        2 => needed + random.between(2, 40),
+        3 => random.below(needed + 1),
+        _ => needed,
+    }
+}
+
+pub const KINDS: std::ops::RangeInclusive<i32> = 1..=10;
+
+/// Whether every argument is allowed with this kind.
+pub fn takes_argument(kind: i32) -> bool {
+    kind == 8 || kind == 10
+}
+
+/// Arguments worth asking a tree of n nodes with.
+pub fn arguments(n: usize) -> [i32; 12] {
+    let n = n as i32;
+    [0, 1, -1, 2, -2, n, -n, n - 1, n + 1, 65_536, i32::MIN, i32::MAX]
+}
+
+/// A question that a tree of n nodes allows.
+pub fn allowed_question(random: &mut Random, n: usize) -> [i32; 3] {
+    let kind = random.between(1, 10) as i32;
+    let argument = match takes_argument(kind) {
+        false => 0,
+        true if random.one_in(2) => random.pick(&arguments(n)),
+        true => random.between(0, 12) as i32 - 6,
+    };
+    [kind, random.between(1, n) as i32, argument]
+}
+
+/// `count` questions that a tree of n nodes allows.
+pub fn allowed_questions(random: &mut Random, n: usize, count: usize) -> Vec<i32> {
+    (0..count).flat_map(|_| allowed_question(random, n)).collect()
+}
+
+/// All nine calls on one tree, with rooms that mostly do.
+pub fn nine_calls(comparison: &mut Comparison, random: &mut Random, forms: &Forms) -> Result<(), Enough> {
+    let (n, bits) = (forms.node_count(), forms.string.len());
+    let room = room_near(random, forms.bytes.len());
+    let bytes = random.bytes(room);
+    comparison.compare(Call::StringOfParents { parents: forms.parents.clone(), bytes })?;
+
+    let room = room_near(random, n);
+    let parents = random.words(room);
+    comparison.compare(Call::ParentsOfString { bytes: forms.bytes.clone(), bits, parents })?;
+
+    let room = room_near(random, forms.image.len());
+    let image = random.bytes(room);
+    comparison.compare(Call::ImageOfParents { parents: forms.parents.clone(), image })?;
+
+    let (rooms, trees) = ([room_near(random, 1), room_near(random, 1)], 1);
+    let [starts, sizes] = rooms.map(|room| random.words(room));
+    comparison.compare(Call::Split { bytes: forms.bytes.clone(), bits, trees, starts, sizes })?;
+
+    let room = room_near(random, forms.bytes.len());
+    let pack = random.bytes(room);
+    comparison.compare(Call::Join { pack, bits: 0, trees: 0, parents: forms.parents.clone() })?;
+
+    readings(comparison, random, &forms.image, n)?;
+    let node = random.between(1, n);
+    let room = room_near(random, forms.numbers_listed(node));
+    let pairs = random.words(room);
+    comparison.compare(Call::List { image: forms.image.clone(), node: number(node), pairs })?;
+    Ok(())
+}
+
+/// All four calls that read an image, on bytes that may be anything but began as the image of n nodes.
+pub fn readings(comparison: &mut Comparison, random: &mut Random, image: &[u8], n: usize) -> Result<(), Enough> {
+    comparison.compare(Call::CheckImage { image: image.to_vec() })?;
+    for which in 0..3 {
+        comparison.compare(reading(random, image, n, which))?;
+    }
+    Ok(())
+}
+
+/// The check of bytes that may be anything, and one of the calls that make the same check first.
+pub fn check_and_one_reading(
+    comparison: &mut Comparison,
+    random: &mut Random,
+    image: &[u8],
+    n: usize,
+) -> Result<(), Enough> {
+    comparison.compare(Call::CheckImage { image: image.to_vec() })?;
+    let which = random.below(3);
+    comparison.compare(reading(random, image, n, which))?;
+    Ok(())
+}
+
+fn reading(random: &mut Random, image: &[u8], n: usize, which: usize) -> Call {
+    let image = image.to_vec();
+    match which {
+        0 => {
+            let room = room_near(random, n);
+            Call::ParentsOfImage { image, parents: random.words(room) }
+        }
+        1 => {
+            let count = random.between(0, 12);
+            let room = room_near(random, count);
+            let questions = allowed_questions(random, n, count);
+            Call::Ask { image, questions, answers: random.words(room) }
+        }
+        _ => {
+            let room = room_near(random, 2 * n);
+            let node = if random.one_in(4) { random.between(0, n + 1) } else { 1 };
+            Call::List { image, node: number(node), pairs: random.words(room) }
+        }
+    }
+}

@@ -1,0 +1,66 @@
+//! The groups of calls. Each is a function that makes calls up and hands them to a comparison.
+
+mod demand_three;
+mod every_small;
+mod forms;
+mod image_damage;
+mod limits;
+mod pages_and_rooms;
+mod parent_lists;
+mod questions_and_listings;
+mod strings_and_packs;
+
+use super::comparison::{Comparison, Enough};
+use super::random::Random;
+use super::twelve_cases;
+
+/// A group of calls.
+pub struct Group {
+    pub name: &'static str,
+    /// Whether another seed gives calls that are worth another run; elsewhere little more than what stands in the
+    /// outputs before the call depends on it.
+    pub drawn: bool,
+    pub run: fn(&mut Comparison, &mut Random) -> Result<(), Enough>,
+}
+
+const fn fixed(name: &'static str, run: fn(&mut Comparison, &mut Random) -> Result<(), Enough>) -> Group {
+    Group { name, drawn: false, run }
+}
+
+const fn drawn(name: &'static str, run: fn(&mut Comparison, &mut Random) -> Result<(), Enough>) -> Group {
+    Group { name, drawn: true, run }
+}
+
+/// All groups, the cheapest first.
+pub const GROUPS: &[Group] = &[
+    fixed("the twelve cases", the_twelve_cases),
+    fixed("unreadable pages, every call", pages_and_rooms::every_call_at_pages),
+    fixed("empty lists", pages_and_rooms::empty_lists),
+    fixed("every room up to two too many", pages_and_rooms::every_room),
+    fixed("every parent list up to 5 numbers", every_small::parent_lists),
+    fixed("every string up to 11 bits", every_small::strings),
+    fixed("every tree up to 7 nodes", every_small::trees),
+    fixed("every R1 and R0 up to 6 nodes", every_small::partitioned_strings),
+    drawn("trees of every shape", limits::trees_of_every_shape),
+    drawn("parent lists with bad entries", parent_lists::bad_entries),
+    drawn("questions", questions_and_listings::questions),
+    drawn("listings", questions_and_listings::listings),
+    drawn("damaged strings", strings_and_packs::damaged_strings),
+    drawn("packs", strings_and_packs::packs),
+    drawn("damaged packs", strings_and_packs::damaged_packs),
+    drawn("packs around the limits", strings_and_packs::packs_around_the_limits),
+    drawn("images with flipped bits", image_damage::flipped_bits),
+    drawn("images edited, sums right again", image_damage::edits_with_right_sums),
+    drawn("images of no tree", image_damage::images_of_no_tree),
+    drawn("images cut, lengthened, exchanged", image_damage::moved_blocks),
+    drawn("demand 3", demand_three::demand_three),
+    drawn("trees around the limits", limits::trees_around_the_limits),
+];
+
+/// "Twelve checked by hand", with what comes back written down by hand.
+fn the_twelve_cases(comparison: &mut Comparison, _: &mut Random) -> Result<(), Enough> {
+    for case in twelve_cases::table() {
+        comparison.expect(case.call, case.answer, case.after)?;
+    }
+    Ok(())
+}

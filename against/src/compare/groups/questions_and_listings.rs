@@ -1,0 +1,97 @@
+//! Questions of every kind, and listings from every node.
+
+use super::forms::{allowed_question, allowed_questions, arguments, room_near, small_size, Forms};
+use crate::compare::call::Call;
+use crate::compare::comparison::{Comparison, Enough};
+use crate::compare::random::Random;
+use crate::compare::shapes::{parent_list, Shape};
+use crate::model::answers::number;
+
+/// Lists of up to 258 questions to trees of all shapes, good and odd ones, in threes and not.
+pub fn questions(comparison: &mut Comparison, random: &mut Random) -> Result<(), Enough> {
+    for round in 0..1_500 {
+        // a large tree now and then, for positions in later blocks and between distant samples
+        let n = if round % 150 == 0 { random.between(4_000, 20_000) } else { small_size(random) };
+        let forms = Forms::drawn(random, n);
+        for _ in 0..12 {
+            let questions = question_list(random, n);
+            let room = room_near(random, questions.len() / 3);
+            let (image, answers) = (forms.image.clone(), random.words(room));
+            comparison.compare(Call::Ask { image, questions, answers })?;
+        }
+    }
+    Ok(())
+}
+
+fn question_list(random: &mut Random, n: usize) -> Vec<i32> {
+    let count = match random.below(12) {
+        0 => 256,
+        1 => random.between(253, 258),
+        2 => 0,
+        _ => random.between(1, 24),
+    };
+    let mut questions = allowed_questions(random, n, count);
+    if random.one_in(3) && count > 0 {
+        // one odd question or two
+        for _ in 0..random.between(1, 2) {
+            let at = 3 * random.below(count);
+            questions[at..at + 3].copy_from_slice(&odd_question(random, n));
+        }
+    }
+    if random.one_in(12) {
+        // not in threes
+        questions.extend(&allowed_question(random, n)[..random.between(1, 2)]);
+    }
+    questions
+}
+
+/// A question with one number out of place.
+fn odd_question(random: &mut Random, n: usize) -> [i32; 3] {
+    let [mut kind, mut node, mut argument] = allowed_question(random, n);
+    let last = n as i32;
+    match random.below(3) {
+        0 => kind = random.pick(&[0, -1, -10, 11, 12, 256, 257, i32::MIN, i32::MAX]),
+        1 => node = random.pick(&[0, -1, -last, last + 1, 65_536, 65_537, i32::MIN, i32::MAX]),
+        _ => argument = random.pick(&arguments(n)),
+    }
+    [kind, node, argument]
+}
+
+/// Trees around depth 64 from all kinds of nodes, and trees of every shape.
+pub fn listings(comparison: &mut Comparison, random: &mut Random) -> Result<(), Enough> {
+    for n in [62, 63, 64, 65, 66, 100, 300] {
+        let path = Forms::of(parent_list(Shape::Path, n, random));
+        for node in 1..=n {
+            list(comparison, random, &path, node)?;
+        }
+        // paths with leaves beside them, so that much is listed before the depth is passed
+        for shape in [Shape::Comb, Shape::Deep, Shape::Broom] {
+            let forms = Forms::of(parent_list(shape, 2 * n, random));
+            for _ in 0..40 {
+                let node = random.between(1, 2 * n);
+                list(comparison, random, &forms, node)?;
+            }
+            list(comparison, random, &forms, 1)?;
+        }
+    }
+    for _ in 0..1_000 {
+        let n = small_size(random);
+        let forms = Forms::drawn(random, n);
+        for _ in 0..4 {
+            let node = random.between(0, n + 1);
+            list(comparison, random, &forms, node)?;
+        }
+    }
+    Ok(())
+}
+
+fn list(comparison: &mut Comparison, random: &mut Random, forms: &Forms, node: usize) -> Result<(), Enough> {
+    let needed = match forms.tree.nodes().contains(&node) {
+        true => forms.numbers_listed(node),
+        false => 2 * forms.node_count(),
+    };
+    let room = room_near(random, needed);
+    let (image, pairs) = (forms.image.clone(), random.words(room));
+    comparison.compare(Call::List { image, node: number(node), pairs })?;
+    Ok(())
+}

@@ -1,0 +1,43 @@
+//! "The order of blocks", for those who damage images.
+
+use crate::model::images::{BITS_IN_BLOCK, BLOCK_BYTES, COUNT_BYTES, PAYLOAD_WORDS, SAMPLE_STEP};
+use std::ops::Range;
+
+/// Which blocks of an image hold what.
+pub struct Layout {
+    pub r1: Range<usize>,
+    pub r0: Range<usize>,
+    pub r1_samples: Range<usize>,
+    pub r0_samples: Range<usize>,
+    /// The bits of R1; R0 has one more.
+    pub n: usize,
+    /// The words of each list of samples.
+    pub samples: usize,
+}
+
+impl Layout {
+    /// The layout of a tree's image, from the numbers that its check answers.
+    pub fn of(n: usize, m: usize) -> Layout {
+        let samples = m.div_ceil(SAMPLE_STEP);
+        let r1 = 1..1 + n.div_ceil(BITS_IN_BLOCK);
+        let r0 = r1.end..r1.end + (n + 1).div_ceil(BITS_IN_BLOCK);
+        let r1_samples = r0.end..r0.end + samples.div_ceil(PAYLOAD_WORDS);
+        let r0_samples = r1_samples.end..r1_samples.end + samples.div_ceil(PAYLOAD_WORDS);
+        Layout { r1, r0, r1_samples, r0_samples, n, samples }
+    }
+}
+
+/// The byte of an image and the mask in it of bit `index`, from 0, of a string whose blocks begin at `first_block`.
+pub fn place_of_bit(first_block: usize, index: usize) -> (usize, u8) {
+    let block = first_block + index / BITS_IN_BLOCK;
+    let in_block = index % BITS_IN_BLOCK;
+    (block * BLOCK_BYTES + COUNT_BYTES + in_block / 8, 0x80 >> (in_block % 8))
+}
+
+/// Word `index` of the payload of a block, or of the blocks behind it.
+pub fn word_at(image: &mut [u8], first_block: usize, index: usize) -> &mut [u8; 4] {
+    let block = first_block + index / PAYLOAD_WORDS;
+    let begin = block * BLOCK_BYTES + 4 * (index % PAYLOAD_WORDS);
+    let bytes = &mut image[begin..begin + 4];
+    bytes.try_into().expect("four bytes")
+}

@@ -1,0 +1,130 @@
+//! Runs the groups and prints what they found.
+
+use super::comparison::{CodeCounts, Comparison, Limits, Subject};
+use super::groups::{Group, GROUPS};
+use super::random::Random;
+use std::io::Write;
+use std::time::Instant;
+
+/// The seed where none is chosen.
+pub const DEFAULT_SEED: u64 = 1;
+
+/// How many differences are printed before the run ends.
+const MOST_DIFFERENCES: usize = 10;
+
+/// What came of some groups.
+#[derive(Default)]
+pub struct Totals {
+    pub comparisons: u64,
+    pub differences: usize,
+    pub codes: CodeCounts,
+}
+
+impl Totals {
+    fn add(&mut self, other: Totals) {
+        self.comparisons += other.comparisons;
+        self.differences += other.differences;
+        for (call_and_code, count) in other.codes {
+            *self.codes.entry(call_and_code).or_default() += count;
+        }
+    }
+
+    /// Prints how often each call answered with each code; says whether each call had all of its codes and no others.
+    pub fn print_codes(&self) -> bool {
+        let mut as_listed = true;
+        for (call, listed) in CODES_OF_CALLS {
+            let counts: Vec<(u32, u64)> = self
+                .codes
+                .iter()
+                .filter(|((name, _), _)| name == call)
+                .map(|((_, code), count)| (*code, *count))
+                .collect();
+            let texts: Vec<String> = counts.iter().map(|(code, count)| format!("{code}: {count}")).collect();
+            println!("{call}, answers with code {}", texts.join(", "));
+            if !counts.iter().map(|(code, _)| code).eq(*listed) {
+                println!("  but its codes are {listed:?}");
+                as_listed = false;
+            }
+        }
+        as_listed
+    }
+}
+
+/// The codes that the library's header has for each call, in increasing order.
+const CODES_OF_CALLS: &[(&str, &[u32])] = &[
+    ("plq_string_of_parents", &[0, 1, 2, 3]),
+    ("plq_parents_of_string", &[0, 1, 2, 4, 5]),
+    ("plq_image_of_parents", &[0, 1, 2, 3]),
+    ("plq_parents_of_image", &[0, 1, 2, 6, 7]),
+    ("plq_check_image", &[0, 2, 6, 7]),
+    ("plq_ask", &[0, 1, 2, 6, 7, 8]),
+    ("plq_split", &[0, 1, 2, 4, 5, 10]),
+    ("plq_join", &[0, 1, 2, 3, 4, 5, 10]),
+    ("plq_list", &[0, 1, 2, 6, 7, 8, 9]),
+];
+
+/// Each group has random numbers of its own, so that what it draws does not depend on the groups before it.
+fn random_of_group(seed: u64, index: usize) -> Random {
+    Random::new(Random::new(seed.wrapping_add(index as u64)).draw() ^ seed)
+}
+
+/// Runs one group and prints a line for it, and a few lines for each difference.
+fn run_group(subject: &mut Subject, seed: u64, index: usize, differences: usize) -> Totals {
+    let group = &GROUPS[index];
+    // the name first: it is all there is if the library never comes back
+    print!("{}: ", group.name);
+    std::io::stdout().flush().expect("standard output is there");
+    let began = Instant::now();
+    let mut comparison = Comparison::new(subject, Limits { differences, comparisons: u64::MAX });
+    // the number of differences says whether the group was left early
+    let _ = (group.run)(&mut comparison, &mut random_of_group(seed, index));
+    let Comparison { count, codes, differences, .. } = comparison;
+    let seconds = began.elapsed().as_secs_f64();
+    println!("{count} comparisons, differences {} ({seconds:.1} s)", differences.len());
+    for difference in &differences {
+        println!("seed {seed}, group '{}', {difference}", group.name);
+    }
+    Totals { comparisons: count, differences: differences.len(), codes }
+}
+
+/// Runs all groups that are wanted and prints a total; ends early at the tenth difference.
+pub fn run_groups(subject: &mut Subject, seed: u64, wanted: fn(&Group) -> bool) -> Totals {
+    let mut totals = Totals::default();
+    for (index, _) in GROUPS.iter().enumerate().filter(|(_, group)| wanted(group)) {
+        totals.add(run_group(subject, seed, index, MOST_DIFFERENCES - totals.differences));
+        if totals.differences == MOST_DIFFERENCES {
+            break;
+        }
+    }
+    println!("total, seed {seed}: {} comparisons, differences {}", totals.comparisons, totals.differences);
+    totals
+}
+
+/// Runs all groups, then the drawn ones with the seeds that follow, until the time is over or something differs.
+pub fn run_for(subject: &mut Subject, seed: u64, minutes: f64) -> Totals {
+    let began = Instant::now();
+    let mut totals = run_groups(subject, seed, |_| true);
+    let mut next_seed = seed;
+    while totals.differences == 0 && began.elapsed().as_secs_f64() < 60.0 * minutes {
+        next_seed = next_seed.wrapping_add(1);
+        totals.add(run_groups(subject, next_seed, |group| group.drawn));
+    }
+    println!(
+        "all, seeds {seed} to {next_seed}: {} comparisons, differences {}",
+        totals.comparisons, totals.differences
+    );
+    totals
+}
+
+/// The first difference that any group finds in its first so many comparisons.
+pub fn first_difference(subject: &mut Subject, seed: u64, comparisons: u64) -> Option<String> {
+    let limits = Limits { differences: 1, comparisons };
+    for (index, group) in GROUPS.iter().enumerate() {
+        let mut comparison = Comparison::new(subject, limits);
+        let _ = (group.run)(&mut comparison, &mut random_of_group(seed, index));
+        if let Some(difference) = comparison.differences.pop() {
+            return Some(format!("group '{}', {difference}", group.name));
+        }
+    }
+    None
+}

@@ -1,0 +1,470 @@
+//! Deliberately wrong functions around the library, to show that the comparison finds them.
+
+use super::call::Call;
+use super::layout::{place_of_bit, word_at, Layout};
+use super::run::{first_difference, DEFAULT_SEED};
+use crate::library::{Library, Returned};
+use crate::model::answers::{number, Answer};
+use crate::model::calls;
+use crate::model::images::{candidate, image_of_tree, seal, BITS_IN_BLOCK, BLOCK_BYTES, PAYLOAD_BYTES, PAYLOAD_WORDS};
+use crate::model::strings::MOST_BITS;
+use crate::model::trees::Tree;
+
+/// A function that does as the library, but for one thing.
+pub struct Wrong {
+    pub name: &'static str,
+    pub what: &'static str,
+    /// Makes what the library left and answered wrong; the call is given as it was before, too.
+    spoil: fn(before: &Call, after: &mut Call, answer: &mut Answer),
+}
+
+impl Wrong {
+    pub fn run(&self, library: &mut Library, call: &mut Call) -> Returned {
+        let before = call.clone();
+        let mut returned = library.run(call);
+        (self.spoil)(&before, call, &mut returned.answer);
+        returned
+    }
+}
+
+/// How far into each group a wrong function is looked for.
+const COMPARISONS: u64 = 1_500;
+
+/// The wrong function of this name.
+pub fn wrong_named(name: &str) -> Option<&'static Wrong> {
+    WRONG.iter().find(|wrong| wrong.name == name)
+}
+
+/// Compares each wrong function with the model and prints the first difference; gives how many were not found.
+pub fn find_all_wrong() -> usize {
+    let mut library = Library::new();
+    let mut missed = 0;
+    for wrong in WRONG {
+        println!("{}: {}", wrong.name, wrong.what);
+        let mut subject = |call: &mut Call| wrong.run(&mut library, call);
+        match first_difference(&mut subject, DEFAULT_SEED, COMPARISONS) {
+            Some(difference) => println!("found, {difference}"),
+            None => {
+                println!("NOT FOUND");
+                missed += 1;
+            }
+        }
+    }
+    println!("wrong functions: {}, found {}, missed {missed}", WRONG.len(), WRONG.len() - missed);
+    missed
+}
+
+pub const WRONG: &[Wrong] = &[
+    Wrong {
+        name: "string-refuses-everything",
+        what: "plq_string_of_parents finds the first entry wrong, always",
+        spoil: |before, after, answer| {
+            if matches!(after, Call::StringOfParents { .. }) {
+                *after = before.clone();
+                *answer = refused(3, 1);
+            }
+        },
+    },
+    Wrong {
+        name: "string-writes-nothing",
+        what: "plq_string_of_parents answers as it should and writes nothing",
+        spoil: |before, after, _| {
+            if matches!(after, Call::StringOfParents { .. }) {
+                *after = before.clone();
+            }
+        },
+    },
+    Wrong {
+        name: "string-names-earlier-entry",
+        what: "plq_string_of_parents takes the earlier of two entries out of order for the offender",
+        spoil: |_, after, answer| {
+            if let (3, Call::StringOfParents { parents, .. }) = (answer.code, after) {
+                let index = answer.place as usize - 1;
+                if index > 0 && parents[index] > 0 && parents[index] < parents[index - 1] {
+                    answer.place -= 1;
+                }
+            }
+        },
+    },
+    Wrong {
+        name: "parents-of-string-place-off-by-one",
+        what: "plq_parents_of_string names the bit before the refusing one",
+        spoil: |_, after, answer| {
+            if let (4, Call::ParentsOfString { .. }) = (answer.code, after) {
+                answer.place -= 1;
+            }
+        },
+    },
+    Wrong {
+        name: "parents-of-string-wraps-length",
+        what: "plq_parents_of_string takes the length modulo 2^32",
+        spoil: |before, after, answer| {
+            if let Call::ParentsOfString { bytes, bits, parents } = before {
+                let wrapped = *bits % (1 << 32);
+                if wrapped != *bits && wrapped <= MOST_BITS {
+                    let mut parents = parents.clone();
+                    *answer = Answer::of(calls::parents_of_string(bytes, wrapped, &mut parents));
+                    *after = Call::ParentsOfString { bytes: bytes.clone(), bits: *bits, parents };
+                }
+            }
+        },
+    },
+    Wrong {
+        name: "image-changes-byte-behind",
+        what: "plq_image_of_parents clears the byte behind the image, where there is one",
+        spoil: |_, after, answer| {
+            if let (0, Call::ImageOfParents { parents, image }) = (answer.code, after) {
+                let tree = Tree::of_parent_list(parents).expect("accepted");
+                let length = image_of_tree(&tree).len();
+                image[length..].iter_mut().take(1).for_each(|byte| *byte = 0);
+            }
+        },
+    },
+    Wrong {
+        name: "image-invents-count",
+        what: "plq_image_of_parents answers the nodes with children, not one more, for m",
+        spoil: |_, after, answer| {
+            if let (0, Call::ImageOfParents { .. }) = (answer.code, after) {
+                answer.second -= 1;
+            }
+        },
+    },
+    Wrong {
+        name: "parents-of-image-fills-short-room",
+        what: "plq_parents_of_image writes what fits before it refuses for too little room",
+        spoil: |_, after, answer| {
+            if let (1, Call::ParentsOfImage { image, parents }) = (answer.code, after) {
+                let all = candidate(image).expect("accepted but for the room").parent_list();
+                parents.iter_mut().zip(all).for_each(|(entry, parent)| *entry = parent);
+            }
+        },
+    },
+    Wrong {
+        name: "check-answers-constant",
+        what: "plq_check_image answers what it should for a single node, always",
+        spoil: |_, after, answer| {
+            if matches!(after, Call::CheckImage { .. }) {
+                *answer = Answer { code: 0, place: 0, first: 1, second: 1 };
+            }
+        },
+    },
+    Wrong {
+        name: "check-ignores-second-sum",
+        what: "plq_check_image looks at s only",
+        spoil: |_, after, answer| {
+            if let (6, Call::CheckImage { image }) = (answer.code, after) {
+                let mut resealed = image.clone();
+                seal(&mut resealed);
+                for block in 0..image.len() / BLOCK_BYTES {
+                    let first_sum = block * BLOCK_BYTES + PAYLOAD_BYTES..block * BLOCK_BYTES + PAYLOAD_BYTES + 4;
+                    resealed[first_sum.clone()].copy_from_slice(&image[first_sum]);
+                }
+                *answer = Call::CheckImage { image: resealed }.by_model();
+            }
+        },
+    },
+    Wrong {
+        name: "check-names-highest-block",
+        what: "plq_check_image names the highest damaged block",
+        spoil: |_, after, answer| {
+            if let (6, Call::CheckImage { image }) = (answer.code, after) {
+                let mut right = image.clone();
+                seal(&mut right);
+                let blocks = right.chunks(BLOCK_BYTES).zip(image.chunks(BLOCK_BYTES));
+                let highest = (0..).zip(blocks).filter(|(_, (right, given))| right != given).last();
+                answer.place = highest.expect("one is damaged").0;
+            }
+        },
+    },
+    Wrong {
+        name: "check-ignores-version",
+        what: "plq_check_image does not look at word 0 of the header",
+        spoil: |_, after, answer| {
+            accept_where(after, answer, |image, right, _| *word_at(image, 0, 0) = *word_at(right, 0, 0));
+        },
+    },
+    Wrong {
+        name: "check-ignores-m",
+        what: "plq_check_image does not look at m in the header",
+        spoil: |_, after, answer| {
+            accept_where(after, answer, |image, right, _| *word_at(image, 0, 2) = *word_at(right, 0, 2));
+        },
+    },
+    Wrong {
+        name: "check-ignores-number-of-blocks",
+        what: "plq_check_image does not look at the number of blocks in the header",
+        spoil: |_, after, answer| {
+            accept_where(after, answer, |image, right, _| *word_at(image, 0, 3) = *word_at(right, 0, 3));
+        },
+    },
+    Wrong {
+        name: "check-ignores-header-zeros",
+        what: "plq_check_image does not look at the header behind its fourth word",
+        spoil: |_, after, answer| accept_where(after, answer, |image, _, _| image[16..PAYLOAD_BYTES].fill(0)),
+    },
+    Wrong {
+        name: "check-ignores-early-counts",
+        what: "plq_check_image does not look at the counts of earlier ones",
+        spoil: |_, after, answer| {
+            accept_where(after, answer, |image, right, layout| {
+                for block in layout.r1.start..layout.r0.end {
+                    *word_at(image, block, 0) = *word_at(right, block, 0);
+                }
+            });
+        },
+    },
+    Wrong {
+        name: "check-ignores-unused-bits",
+        what: "plq_check_image does not look at the bits behind R0",
+        spoil: |_, after, answer| {
+            accept_where(after, answer, |image, _, layout| {
+                for index in layout.n + 1..layout.r0.len() * BITS_IN_BLOCK {
+                    let (byte, mask) = place_of_bit(layout.r0.start, index);
+                    image[byte] &= !mask;
+                }
+            });
+        },
+    },
+    Wrong {
+        name: "check-ignores-last-sample",
+        what: "plq_check_image does not look at the last sample of R0",
+        spoil: |_, after, answer| {
+            accept_where(after, answer, |image, right, layout| {
+                let (first, last) = (layout.r0_samples.start, layout.samples - 1);
+                *word_at(image, first, last) = *word_at(right, first, last);
+            });
+        },
+    },
+    Wrong {
+        name: "check-ignores-unused-words",
+        what: "plq_check_image does not look at the words behind the samples of R1",
+        spoil: |_, after, answer| {
+            accept_where(after, answer, |image, _, layout| {
+                for word in layout.samples..layout.r1_samples.len() * PAYLOAD_WORDS {
+                    *word_at(image, layout.r1_samples.start, word) = [0; 4];
+                }
+            });
+        },
+    },
+    Wrong {
+        name: "ask-answers-only-first",
+        what: "plq_ask answers the first question and gives 0 for the rest",
+        spoil: |_, after, answer| {
+            if let (0, Call::Ask { answers, .. }) = (answer.code, after) {
+                answers[..answer.first as usize].iter_mut().skip(1).for_each(|answer| *answer = 0);
+            }
+        },
+    },
+    Wrong {
+        name: "ask-finds-no-last-sibling",
+        what: "plq_ask answers kind 4 with 0 where the next sibling is the last",
+        spoil: |_, after, answer| {
+            if let (0, Call::Ask { image, questions, answers }) = (answer.code, after) {
+                let tree = candidate(image).expect("accepted");
+                for (question, answer) in questions.chunks(3).zip(answers) {
+                    let last = *tree.siblings(question[1] as usize).last().expect("itself");
+                    if question[0] == 4 && *answer == number(last) {
+                        *answer = 0;
+                    }
+                }
+            }
+        },
+    },
+    Wrong {
+        name: "ask-refuses-least-argument",
+        what: "plq_ask does not allow the argument -2^31",
+        spoil: |before, after, answer| {
+            if let (0, Call::Ask { questions, .. }) = (answer.code, before) {
+                if let Some(index) = questions.chunks(3).position(|question| question[2] == i32::MIN) {
+                    *after = before.clone();
+                    *answer = refused(8, number(index) + 1);
+                }
+            }
+        },
+    },
+    Wrong {
+        name: "ask-takes-257",
+        what: "plq_ask answers 257 questions",
+        spoil: |before, after, answer| {
+            if let (2, Call::Ask { image, questions, answers }) = (answer.code, before) {
+                if questions.len() == 3 * 257 && answers.len() >= 257 {
+                    let ask = |questions: &[i32], answers: &[u32]| Call::Ask {
+                        image: image.clone(),
+                        questions: questions.to_vec(),
+                        answers: answers.to_vec(),
+                    };
+                    let most = ask(&questions[..3 * 256], answers).by_model();
+                    if most.code == 0 {
+                        *answer = Answer { first: 257, ..most };
+                        *after = before.clone();
+                    }
+                }
+            }
+        },
+    },
+    Wrong {
+        name: "split-sizes-off-by-one",
+        what: "plq_split gives each tree one node more",
+        spoil: |_, after, answer| {
+            if let (0, Call::Split { trees, sizes, .. }) = (answer.code, after) {
+                sizes[..*trees].iter_mut().for_each(|size| *size += 1);
+            }
+        },
+    },
+    Wrong {
+        name: "split-only-first-tree",
+        what: "plq_split writes the first tree's numbers for all of them",
+        spoil: |_, after, answer| {
+            if let (0, Call::Split { trees: 1.., starts, sizes, .. }) = (answer.code, after) {
+                let (start, size) = (starts[0], sizes[0]);
+                starts[..answer.second as usize].fill(start);
+                sizes[..answer.second as usize].fill(size);
+            }
+        },
+    },
+    Wrong {
+        name: "split-ignores-number-of-trees",
+        what: "plq_split accepts a pack of fewer trees than said",
+        spoil: |before, after, answer| {
+            if let (10, Call::Split { bytes, bits, trees, starts, sizes }) = (answer.code, before) {
+                let found = answer.place as usize;
+                if found < *trees {
+                    let (mut starts, mut sizes) = (starts.clone(), sizes.clone());
+                    *answer = Answer::of(calls::split(bytes, *bits, found, &mut starts, &mut sizes));
+                    *after = Call::Split { bytes: bytes.clone(), bits: *bits, trees: *trees, starts, sizes };
+                }
+            }
+        },
+    },
+    Wrong {
+        name: "split-changes-its-input",
+        what: "plq_split sets a bit of the string that it reads",
+        spoil: |_, after, _| {
+            if let Call::Split { bytes, .. } = after {
+                bytes.iter_mut().take(1).for_each(|byte| *byte |= 1);
+            }
+        },
+    },
+    Wrong {
+        name: "split-looks-at-one-room",
+        what: "plq_split refuses for too little room for the starts only",
+        spoil: |_, after, answer| {
+            if let (1, Call::Split { bits, trees, starts, .. }) = (answer.code, after) {
+                if starts.len() >= *trees {
+                    *answer = Answer { code: 0, place: 0, first: number(*bits), second: number(*trees) };
+                }
+            }
+        },
+    },
+    Wrong {
+        name: "join-clears-all-behind",
+        what: "plq_join clears the bytes behind the new last one",
+        spoil: |_, after, answer| {
+            if let (0, Call::Join { pack, .. }) = (answer.code, after) {
+                pack[answer.first.div_ceil(8) as usize..].fill(0);
+            }
+        },
+    },
+    Wrong {
+        name: "join-keeps-leftover",
+        what: "plq_join leaves what stood in the leftover bits of the new last byte",
+        spoil: |before, after, answer| {
+            if let (0, Call::Join { pack, .. }, Call::Join { pack: old, .. }) = (answer.code, after, before) {
+                let (last, used) = (answer.first as usize / 8, answer.first % 8);
+                if used > 0 {
+                    pack[last] |= old[last] & (0xFF >> used);
+                }
+            }
+        },
+    },
+    Wrong {
+        name: "join-takes-256-trees",
+        what: "plq_join finds no fault with k = 256",
+        spoil: |_, after, answer| {
+            if let (2, Call::Join { trees: 256, bits, parents, .. }) = (answer.code, after) {
+                answer.code = 0;
+                answer.first = number(*bits + 2 * parents.len() + 1);
+                answer.second = 257;
+            }
+        },
+    },
+    Wrong {
+        name: "join-checks-parents-first",
+        what: "plq_join refuses a bad parent list before a joined length over 131,071",
+        spoil: |_, after, answer| {
+            if let (2, Call::Join { bits, parents, .. }) = (answer.code, after) {
+                let length_of_tree = 2 * parents.len() + 1;
+                let fits_alone = *bits <= MOST_BITS && length_of_tree <= MOST_BITS;
+                if fits_alone && *bits + length_of_tree > MOST_BITS {
+                    if let Err(refusal) = Tree::of_parent_list(parents) {
+                        *answer = Answer::of(Err(refusal));
+                    }
+                }
+            }
+        },
+    },
+    Wrong {
+        name: "list-children-in-reverse",
+        what: "plq_list lists the children of a node from the last to the first",
+        spoil: |_, after, answer| {
+            if let (0, Call::List { image, node, pairs }) = (answer.code, after) {
+                let tree = candidate(image).expect("accepted");
+                let listed = listed_in_reverse(&tree, *node as usize, 0);
+                pairs[..listed.len()].copy_from_slice(&listed);
+            }
+        },
+    },
+    Wrong {
+        name: "list-depth-from-root",
+        what: "plq_list counts depth from the root, not from the node asked for",
+        spoil: |_, after, answer| {
+            if let (0, Call::List { image, node: 2.., pairs }) = (answer.code, after) {
+                let tree = candidate(image).expect("accepted");
+                for pair in pairs.chunks_exact_mut(2).take(answer.first as usize) {
+                    let ancestors = std::iter::successors(Some(pair[0] as usize), |&node| Some(tree.parent(node)));
+                    pair[1] = number(ancestors.take_while(|&node| node != 1).count());
+                }
+            }
+        },
+    },
+    Wrong {
+        name: "list-place-off-by-one",
+        what: "plq_list names the node before the first one at depth 64",
+        spoil: |_, after, answer| {
+            if let (9, Call::List { .. }) = (answer.code, after) {
+                answer.place -= 1;
+            }
+        },
+    },
+];
+
+fn refused(code: u32, place: u32) -> Answer {
+    Answer { code, place, first: 0, second: 0 }
+}
+
+/// A check that looks at less: an image refused with code 7 is accepted if it is right once what is not looked at
+/// has been made right. `repair` gets the image, the right image of the only tree in question, and its layout.
+fn accept_where(call: &Call, answer: &mut Answer, repair: fn(&mut [u8], &mut [u8], &Layout)) {
+    let (7, Call::CheckImage { image }) = (answer.code, call) else { return };
+    let Some(tree) = candidate(image) else { return };
+    let mut right = image_of_tree(&tree);
+    if right.len() != image.len() {
+        return;
+    }
+    let accepted = Call::CheckImage { image: right.clone() }.by_model();
+    let layout = Layout::of(accepted.first as usize, accepted.second as usize);
+    let mut repaired = image.clone();
+    repair(&mut repaired, &mut right, &layout);
+    seal(&mut repaired);
+    if repaired == right {
+        *answer = accepted;
+    }
+}
+
+fn listed_in_reverse(tree: &Tree, node: usize, depth: u32) -> Vec<u32> {
+    let mut listed = vec![number(node), depth];
+    for &child in tree.children(node).iter().rev() {
+        listed.extend(listed_in_reverse(tree, child, depth + 1));
+    }
+    listed
+}

@@ -1,0 +1,76 @@
+//! "Numbers a caller gets back".
+
+/// "Each answer is a code, a place and two counts."
+#[repr(C)]
+#[derive(Clone, Copy, Debug, PartialEq, Eq)]
+pub struct Answer {
+    pub code: u32,
+    pub place: u32,
+    pub first: u32,
+    pub second: u32,
+}
+
+/// The two counts of an answer with code 0.
+pub type Counts = (usize, usize);
+
+/// The table of codes, one variant a row and in its order. "Where several hold, the upper row wins": every call of
+/// the model asks for them in this order.
+#[derive(Clone, Copy, Debug, PartialEq, Eq)]
+pub enum Refusal {
+    /// A count, a length or a number of blocks is outside its limits.
+    WrongSize,
+    /// "A block's s or t is wrong"; place: "lowest such block".
+    WrongSums { block: usize },
+    /// "All blocks check, no tree gives this image".
+    NotAnImage,
+    /// "A leftover bit is set".
+    LeftoverSet,
+    /// "Bits are no tree string (pack: no strings end to end)".
+    NotAString { bit: usize },
+    /// "The trees in a pack aren't k"; place: "the number found".
+    OtherTrees { found: usize },
+    /// "Not a parent list"; place: "lowest offending entry, from 1".
+    NotAParentList { entry: usize },
+    /// "Kind, node or argument not allowed"; place: "lowest such question, counted from 1; for a listing 1".
+    NotAllowed { question: usize },
+    /// "Listing too deep"; place: "first node in listing order at depth 64".
+    TooDeep { node: usize },
+    /// "An output has too little room".
+    NoRoom,
+}
+
+impl Refusal {
+    fn code_and_place(self) -> (u32, usize) {
+        match self {
+            Refusal::WrongSize => (2, 0),
+            Refusal::WrongSums { block } => (6, block),
+            Refusal::NotAnImage => (7, 0),
+            Refusal::LeftoverSet => (5, 0),
+            Refusal::NotAString { bit } => (4, bit),
+            Refusal::OtherTrees { found } => (10, found),
+            Refusal::NotAParentList { entry } => (3, entry),
+            Refusal::NotAllowed { question } => (8, question),
+            Refusal::TooDeep { node } => (9, node),
+            Refusal::NoRoom => (1, 0),
+        }
+    }
+}
+
+impl Answer {
+    /// "On refusal the counts are 0", "On 0 the place is 0".
+    pub fn of(result: Result<Counts, Refusal>) -> Answer {
+        let (code, place, (first, second)) = match result {
+            Ok(counts) => (0, 0, counts),
+            Err(refusal) => {
+                let (code, place) = refusal.code_and_place();
+                (code, place, (0, 0))
+            }
+        };
+        Answer { code, place: number(place), first: number(first), second: number(second) }
+    }
+}
+
+/// A count of the model as a number of 32 bits; every one of them fits.
+pub fn number(count: usize) -> u32 {
+    u32::try_from(count).expect("counts and places of the model stay far below 2^32")
+}

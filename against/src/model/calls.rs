@@ -1,0 +1,158 @@
+//! The nine calls as total functions: what comes back for any input, and what every lent list holds after it.
+//!
+//! Each asks for its refusals in the order of the table and writes only when none is left, for "On refusal the
+//! counts are 0 and no lent buffer changes"; and then "only the needed first part of the output (for joining, the
+//! new bits) is written".
+
+use super::answers::{number, Counts, Refusal};
+use super::bits::{bits_of_bytes, bytes_for, bytes_of_bits};
+use super::images::{self, ones_in, partition};
+use super::listing::listing_from;
+use super::packs::{parts_of_pack, MOST_TREES};
+use super::questions::{answers_to, question_count};
+use super::strings::{string_of_tree, tree_of_string, MOST_BITS};
+use super::trees::{Tree, MOST_NODES};
+
+/// Counts: "bits and trees (string made, ..)".
+pub fn string_of_parents(parents: &[u32], bytes: &mut [u8]) -> Result<Counts, Refusal> {
+    demand_node_count(parents)?;
+    let string = string_of_tree(&Tree::of_parent_list(parents)?);
+    write_first_part(&bytes_of_bits(&string), bytes)?;
+    Ok((string.len(), 1))
+}
+
+/// Counts: "n and 0 (parent list made)".
+pub fn parents_of_string(bytes: &[u8], bits: usize, parents: &mut [u32]) -> Result<Counts, Refusal> {
+    demand_bytes_of(bits, bytes)?;
+    let tree = tree_of_string(&bits_without_leftover(bytes, bits)?)?;
+    write_first_part(&tree.parent_list(), parents)?;
+    Ok((tree.node_count(), 0))
+}
+
+/// Counts: "n and m (image made or checked)".
+pub fn image_of_parents(parents: &[u32], image: &mut [u8]) -> Result<Counts, Refusal> {
+    demand_node_count(parents)?;
+    let tree = Tree::of_parent_list(parents)?;
+    write_first_part(&images::image_of_tree(&tree), image)?;
+    Ok((tree.node_count(), m_of(&tree)))
+}
+
+/// Counts: "n and 0 (parent list made)".
+pub fn parents_of_image(image: &[u8], parents: &mut [u32]) -> Result<Counts, Refusal> {
+    let tree = images::tree_of_image(image)?;
+    write_first_part(&tree.parent_list(), parents)?;
+    Ok((tree.node_count(), 0))
+}
+
+/// Counts: "n and m (image made or checked)".
+pub fn check_image(image: &[u8]) -> Result<Counts, Refusal> {
+    let tree = images::tree_of_image(image)?;
+    Ok((tree.node_count(), m_of(&tree)))
+}
+
+/// Counts: "questions answered and 0".
+pub fn ask(image: &[u8], questions: &[i32], answers: &mut [u32]) -> Result<Counts, Refusal> {
+    // both are code 2, which comes before what is wrong inside the image
+    images::block_count(image)?;
+    let count = question_count(questions)?;
+    let tree = images::tree_of_image(image)?;
+    let made = numbers_of(answers_to(&tree, questions)?);
+    write_first_part(&made, answers)?;
+    Ok((count, 0))
+}
+
+/// "Splitting writes for each tree its first bit and its node count". Counts: "bits and trees (.., pack split or
+/// joined)".
+pub fn split(
+    bytes: &[u8],
+    bits: usize,
+    trees: usize,
+    starts: &mut [u32],
+    sizes: &mut [u32],
+) -> Result<Counts, Refusal> {
+    demand_bytes_of(bits, bytes)?;
+    demand(trees <= MOST_TREES)?;
+    let parts = parts_of_pack(&bits_without_leftover(bytes, bits)?, trees)?;
+    let first_bits = numbers_of(parts.iter().map(|part| part.first_bit));
+    let node_counts = numbers_of(parts.iter().map(|part| part.tree.node_count()));
+    if starts.len() < trees || sizes.len() < trees {
+        return Err(Refusal::NoRoom);
+    }
+    write_first_part(&first_bits, starts)?;
+    write_first_part(&node_counts, sizes)?;
+    Ok((bits, trees))
+}
+
+/// "Joining adds one tree, given as a parent list, to a pack in a lent buffer at least as long as the pack's bytes".
+/// "It answers the new length and k + 1."
+pub fn join(pack: &mut [u8], bits: usize, trees: usize, parents: &[u32]) -> Result<Counts, Refusal> {
+    demand_node_count(parents)?;
+    demand(bits <= MOST_BITS && bytes_for(bits) <= pack.len())?;
+    // "k over 256 (joining: over 255)"
+    demand(trees < MOST_TREES)?;
+    let joined_bits = bits + 2 * parents.len() + 1;
+    demand(joined_bits <= MOST_BITS)?;
+    let mut joined = bits_without_leftover(&pack[..bytes_for(bits)], bits)?;
+    parts_of_pack(&joined, trees)?;
+    joined.extend(string_of_tree(&Tree::of_parent_list(parents)?));
+    // "earlier bits stay, new leftover bits are zero, bytes after the new last one stay"
+    write_first_part(&bytes_of_bits(&joined), pack)?;
+    Ok((joined_bits, trees + 1))
+}
+
+/// Counts: "nodes listed and 0". "Two numbers to a node."
+pub fn list(image: &[u8], node: u32, pairs: &mut [u32]) -> Result<Counts, Refusal> {
+    let tree = images::tree_of_image(image)?;
+    if !tree.nodes().contains(&(node as usize)) {
+        // "listing of a node not in 1..n": "for a listing 1"
+        return Err(Refusal::NotAllowed { question: 1 });
+    }
+    let entries = listing_from(&tree, node as usize)?;
+    let made = numbers_of(entries.iter().flat_map(|entry| [entry.node, entry.depth]));
+    write_first_part(&made, pairs)?;
+    Ok((entries.len(), 0))
+}
+
+/// Code 2 unless the size is within its limits.
+fn demand(within_limits: bool) -> Result<(), Refusal> {
+    within_limits.then_some(()).ok_or(Refusal::WrongSize)
+}
+
+/// "Parent list not of 1 to 65,535 numbers".
+fn demand_node_count(parents: &[u32]) -> Result<(), Refusal> {
+    demand((1..=MOST_NODES).contains(&parents.len()))
+}
+
+/// "L over 131,071; byte count not that of L".
+fn demand_bytes_of(bits: usize, bytes: &[u8]) -> Result<(), Refusal> {
+    demand(bits <= MOST_BITS && bytes_for(bits) == bytes.len())
+}
+
+/// The first bits of the bytes that they take, where no bit behind them is set.
+fn bits_without_leftover(bytes: &[u8], count: usize) -> Result<Vec<bool>, Refusal> {
+    let mut bits = bits_of_bytes(bytes);
+    let leftover = bits.split_off(count);
+    if leftover.contains(&true) {
+        return Err(Refusal::LeftoverSet);
+    }
+    Ok(bits)
+}
+
+/// "m is one more than the number of nodes with children"; that it is also the number of ones of R1 is held against
+/// it here.
+fn m_of(tree: &Tree) -> usize {
+    let with_children = tree.nodes().filter(|&node| !tree.children(node).is_empty()).count();
+    debug_assert_eq!(ones_in(&partition(&string_of_tree(tree)).0), with_children + 1);
+    with_children + 1
+}
+
+fn numbers_of(counts: impl IntoIterator<Item = usize>) -> Vec<u32> {
+    counts.into_iter().map(number).collect()
+}
+
+/// Writes to the beginning of an output, or finds too little room in it.
+fn write_first_part<T: Copy>(made: &[T], output: &mut [T]) -> Result<(), Refusal> {
+    let first_part = output.get_mut(..made.len()).ok_or(Refusal::NoRoom)?;
+    first_part.copy_from_slice(made);
+    Ok(())
+}

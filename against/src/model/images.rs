@@ -1,0 +1,195 @@
+//! "Partitioned strings" and "Image".
+
+use super::answers::{number, Refusal};
+use super::bits::{bits_of_bytes, bytes_of_bits};
+use super::strings::{string_of_tree, tree_of_string};
+use super::trees::{Tree, MOST_NODES};
+
+/// "Blocks of 512 bytes".
+pub const BLOCK_BYTES: usize = 512;
+/// "Each has 504 bytes of payload, read as 126 little-endian 32-bit words".
+pub const PAYLOAD_BYTES: usize = 504;
+pub const PAYLOAD_WORDS: usize = 126;
+/// "Then 500 bytes, 4,000 bits", behind the word with the count of earlier ones.
+pub const BITS_IN_BLOCK: usize = 4_000;
+pub const COUNT_BYTES: usize = 4;
+/// "Ones number 1, 65, 129 and so on".
+pub const SAMPLE_STEP: usize = 64;
+/// "Image not whole blocks or not 5 to 53 of them".
+const FEWEST_BLOCKS: usize = 5;
+pub const MOST_BLOCKS: usize = 53;
+const VERSION: u32 = 1;
+
+/// "A run of l equal bits becomes l - 1 zeros and a 1. R1 is made of the runs of ones, R0 of the runs of zeros."
+pub fn partition(string: &[bool]) -> (Vec<bool>, Vec<bool>) {
+    let mut r1 = Vec::new();
+    let mut r0 = Vec::new();
+    for (index, &bit) in string.iter().enumerate() {
+        let run_ends = string.get(index + 1) != Some(&bit);
+        if bit {
+            r1.push(run_ends);
+        } else {
+            r0.push(run_ends);
+        }
+    }
+    (r1, r0)
+}
+
+pub fn ones_in(string: &[bool]) -> usize {
+    string.iter().filter(|&&bit| bit).count()
+}
+
+/// The image of a tree.
+pub fn image_of_tree(tree: &Tree) -> Vec<u8> {
+    let (r1, r0) = partition(&string_of_tree(tree));
+    image_of_strings(&r1, &r0)
+}
+
+/// The image made of two partitioned strings, whether or not they come from a tree.
+pub fn image_of_strings(r1: &[bool], r0: &[bool]) -> Vec<u8> {
+    let parts = [string_blocks(r1), string_blocks(r0), sample_blocks(r1), sample_blocks(r0)];
+    let behind_header = parts.concat();
+    let (n, m) = (number(r1.len()), number(ones_in(r1)));
+    let header = payload_of_words(&[VERSION, n, m, number(1 + behind_header.len())]);
+    let mut image = Vec::new();
+    for payload in std::iter::once(&header).chain(&behind_header) {
+        image.extend(payload);
+        image.extend([0; BLOCK_BYTES - PAYLOAD_BYTES]);
+    }
+    seal(&mut image);
+    image
+}
+
+/// Words at the beginning of a payload; "Unused payload is zero."
+fn payload_of_words(words: &[u32]) -> Vec<u8> {
+    let mut payload: Vec<u8> = words.iter().flat_map(|word| word.to_le_bytes()).collect();
+    payload.resize(PAYLOAD_BYTES, 0);
+    payload
+}
+
+/// "Word 0 is the number of ones in earlier R1 blocks; then 500 bytes, 4,000 bits, most significant bit first".
+fn string_blocks(string: &[bool]) -> Vec<Vec<u8>> {
+    let mut payloads = Vec::new();
+    let mut ones_before = 0;
+    for bits in string.chunks(BITS_IN_BLOCK) {
+        let mut payload = number(ones_before).to_le_bytes().to_vec();
+        payload.extend(bytes_of_bits(bits));
+        payload.resize(PAYLOAD_BYTES, 0);
+        payloads.push(payload);
+        ones_before += ones_in(bits);
+    }
+    payloads
+}
+
+/// "Positions, from 1 in the whole string, of ones number 1, 65, 129 and so on, one word each, 126 to a block".
+fn sample_blocks(string: &[bool]) -> Vec<Vec<u8>> {
+    let positions_of_ones = (1..=string.len()).filter(|&position| string[position - 1]);
+    let samples: Vec<u32> = positions_of_ones.step_by(SAMPLE_STEP).map(number).collect();
+    samples.chunks(PAYLOAD_WORDS).map(payload_of_words).collect()
+}
+
+/// "For block b: start with s = b and t = 0; for each payload word add it to s, then add s to t, both modulo 2^32."
+pub fn sums_of_block(block: usize, payload: &[u8]) -> (u32, u32) {
+    let (mut s, mut t) = (number(block), 0u32);
+    for word in payload.chunks(4) {
+        s = s.wrapping_add(u32::from_le_bytes(word.try_into().expect("four bytes")));
+        t = t.wrapping_add(s);
+    }
+    (s, t)
+}
+
+/// Writes the right sums behind every payload: "then s and t, four bytes each, little-endian".
+pub fn seal(image: &mut [u8]) {
+    for (number, block) in image.chunks_exact_mut(BLOCK_BYTES).enumerate() {
+        let (payload, sums) = block.split_at_mut(PAYLOAD_BYTES);
+        let (s, t) = sums_of_block(number, payload);
+        sums[..4].copy_from_slice(&s.to_le_bytes());
+        sums[4..].copy_from_slice(&t.to_le_bytes());
+    }
+}
+
+/// The number of blocks, where it is one that an image can have.
+pub fn block_count(image: &[u8]) -> Result<usize, Refusal> {
+    let blocks = image.len() / BLOCK_BYTES;
+    if !image.len().is_multiple_of(BLOCK_BYTES) || !(FEWEST_BLOCKS..=MOST_BLOCKS).contains(&blocks) {
+        return Err(Refusal::WrongSize);
+    }
+    Ok(blocks)
+}
+
+/// The whole check: the tree that gives this image, or codes 2, 6 and 7 in their order.
+pub fn tree_of_image(image: &[u8]) -> Result<Tree, Refusal> {
+    block_count(image)?;
+    if let Some(block) = lowest_wrong_block(image) {
+        return Err(Refusal::WrongSums { block });
+    }
+    // If any tree gives this image it is the candidate, for n, R1 and R0 stand where that tree's image has them.
+    // All the rest (m, counts, samples, zeros) is right exactly if the candidate's image has the same bytes.
+    candidate(image).filter(|tree| image_of_tree(tree) == image).ok_or(Refusal::NotAnImage)
+}
+
+fn lowest_wrong_block(image: &[u8]) -> Option<usize> {
+    let mut unsealed = image.to_vec();
+    seal(&mut unsealed);
+    let pairs = image.chunks(BLOCK_BYTES).zip(unsealed.chunks(BLOCK_BYTES));
+    pairs.enumerate().find(|(_, (given, right))| given != right).map(|(block, _)| block)
+}
+
+/// The only tree that could give this image, from n, R1 and R0 alone.
+pub fn candidate(image: &[u8]) -> Option<Tree> {
+    let n = word(image, 0, 1) as usize;
+    if !(1..=MOST_NODES).contains(&n) {
+        return None;
+    }
+    let r1_begin = 1;
+    let r0_begin = r1_begin + n.div_ceil(BITS_IN_BLOCK);
+    let r1 = string_in_blocks(image, r1_begin, n)?;
+    let r0 = string_in_blocks(image, r0_begin, n + 1)?;
+    tree_of_string(&unite(&r1, &r0)?).ok()
+}
+
+/// Word `index` of the payload of a block.
+fn word(image: &[u8], block: usize, index: usize) -> u32 {
+    let begin = block * BLOCK_BYTES + 4 * index;
+    u32::from_le_bytes(image[begin..begin + 4].try_into().expect("four bytes"))
+}
+
+/// The first `length` bits of a string whose first block is `begin`, where the image has so many blocks.
+fn string_in_blocks(image: &[u8], begin: usize, length: usize) -> Option<Vec<bool>> {
+    let end = begin + length.div_ceil(BITS_IN_BLOCK);
+    let blocks = image.get(begin * BLOCK_BYTES..end * BLOCK_BYTES)?;
+    let mut bits = Vec::new();
+    for block in blocks.chunks(BLOCK_BYTES) {
+        bits.extend(bits_of_bytes(&block[COUNT_BYTES..PAYLOAD_BYTES]));
+    }
+    bits.truncate(length);
+    Some(bits)
+}
+
+/// The string that begins with a run of ones, then has a run of zeros, and so on in turn, with the runs of R1 and R0.
+fn unite(r1: &[bool], r0: &[bool]) -> Option<Vec<bool>> {
+    let (runs_of_ones, runs_of_zeros) = (run_lengths(r1)?, run_lengths(r0)?);
+    if runs_of_ones.len() != runs_of_zeros.len() {
+        return None;
+    }
+    let mut string = Vec::new();
+    for (ones, zeros) in runs_of_ones.into_iter().zip(runs_of_zeros) {
+        string.resize(string.len() + ones, true);
+        string.resize(string.len() + zeros, false);
+    }
+    Some(string)
+}
+
+/// How long each run of a partitioned string is, unless its last run has no end.
+fn run_lengths(partitioned: &[bool]) -> Option<Vec<usize>> {
+    let mut lengths = Vec::new();
+    let mut length = 0;
+    for &run_ends in partitioned {
+        length += 1;
+        if run_ends {
+            lengths.push(length);
+            length = 0;
+        }
+    }
+    (length == 0).then_some(lengths)
+}

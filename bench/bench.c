@@ -1,0 +1,554 @@
+/* Times every call of the library beside the plain C store and the peers, on the same trees, and prints one table of ratios.
+ *
+ *   bench ROUNDS                                 the table
+ *   bench STORE CALL SHAPE NODES TIMES           that many calls and nothing else, for a profiler or a counter of
+ *                                                instructions; STORE is library, plain_o2 or plain_o3
+ *
+ * Other work on the machine moves a time by far more than the differences looked for. So the contestants take turns in
+ * short samples, a ratio is always one of two samples of the same round, and the table has the median of these ratios,
+ * with the ratio of the two least times beside it. */
+#define _POSIX_C_SOURCE 200809L
+#include "calls.h"
+#include "compare.h"
+#include "peers.h"
+#include "shapes.h"
+
+#include <stdio.h>
+#include <stdlib.h>
+#include <string.h>
+#include <time.h>
+
+enum {
+    MOST_TURNS = 32,
+    LISTS = 8, /* of questions for each tree */
+    PACK_BYTES = (PLQ_MOST_BITS + 7) / 8,
+    MOST_ROUNDS = 1001,
+    SEED = 5
+};
+
+static const double sample_ns = 4e5; /* a sample takes about so long, or one call on each tree if that is longer */
+
+static const struct store library = {"the library", CALLS_OF(plq_)};
+
+/* ---- what is measured ---- */
+
+/* Of each shape and size several trees are taken in turn: the processor would learn the branches of a single one by heart,
+ * and with it what no reader of a new image has. */
+static const struct kind {
+    enum shape shape;
+    uint32_t n, turns;
+} kinds[] = {{RANDOM, 65535, 4}, {DIARY, 65535, 4}, {DEEP60, 65535, 4}, {SPINE, 65535, 4}, {RANDOM, 4000, 32}, {DIARY, 4000, 32}};
+
+enum { KINDS = sizeof kinds / sizeof *kinds };
+
+/* What a peer does that stands beside a call of the library. */
+enum beside {
+    NOTHING,
+    OPEN,            /* beside the check: what it takes before the first question */
+    OPEN_AND_ANSWER, /* beside a whole ask */
+    ANSWER,
+    SAVE, /* beside sealing */
+    WALK  /* a listing, by a tree that is open */
+};
+
+static const struct row {
+    const char *name;
+    enum call call;
+    double target;     /* the most that library / plain C at -O2 should be; 0: none was set */
+    int answers_alone; /* less what the same call takes without a question */
+    enum beside beside;
+} rows[] = {
+    {"`plq_check_image`", CHECK_IMAGE, 1.0, 0, OPEN},
+    {"`plq_ask`, 256 mixed", ASK, 1.0, 0, OPEN_AND_ANSWER},
+    {"the 256 answers alone", ASK, 0, 1, ANSWER},
+    {"`plq_string_of_parents`", STRING_OF_PARENTS, 1.0, 0, NOTHING},
+    {"`plq_parents_of_string`", PARENTS_OF_STRING, 1.0, 0, NOTHING},
+    {"`plq_image_of_parents`", IMAGE_OF_PARENTS, 1.0, 0, SAVE},
+    {"`plq_parents_of_image`", PARENTS_OF_IMAGE, 1.0, 0, NOTHING},
+    {"`plq_split`, 256 trees", SPLIT, 1.5, 0, NOTHING},
+    {"`plq_join`, tree 256", JOIN, 1.5, 0, NOTHING},
+    {"`plq_list`", LIST, 1.5, 0, WALK},
+};
+
+enum { ROWS = sizeof rows / sizeof *rows };
+
+/* Who is measured: a store or a peer. Every ratio is the time of the first to that of another. */
+static const struct contestant {
+    const struct store *store;
+    const struct peer *peer;
+} contestants[] = {
+    {&library, NULL},
+    {&plain_o2, NULL},
+    {&plain_o3, NULL},
+    {NULL, &arrays_peer},
+#ifdef WITH_SDSL
+    {NULL, &sdsl_peer},
+#endif
+};
+
+enum { CONTESTANTS = sizeof contestants / sizeof *contestants, LIBRARY = 0, PLAIN_O2 = 1 };
+
+/* One tree with all that the calls are given. */
+struct tree {
+    uint32_t n;
+    uint32_t *parents;
+    uint32_t joined_tree[PLQ_MOST_NODES / PLQ_MOST_TREES];
+    uint8_t image[PLQ_MOST_IMAGE_BYTES], string[PACK_BYTES], pack[PACK_BYTES], pack_to_join[PACK_BYTES];
+    int32_t questions[LISTS][3 * PLQ_MOST_QUESTIONS];
+    struct request requests[CALLS];
+    uint32_t listed; /* nodes that the listing has */
+    void *peers[CONTESTANTS];
+};
+
+/* The trees of one kind, and what the calls may write to. */
+struct bed {
+    const struct kind *kind;
+    struct tree *trees[MOST_TURNS];
+    uint32_t turn; /* of the trees and their lists of questions */
+    struct lent lent;
+};
+
+static void *allocate(size_t bytes)
+{
+    void *at = calloc(bytes, 1);
+    if (at == NULL) abort();
+    return at;
+}
+
+static void require(int fine, const char *what)
+{
+    if (fine) return;
+    fprintf(stderr, "bench: %s\n", what);
+    exit(1);
+}
+
+/* The node with the most nodes below it among those that can be listed: the root, unless the tree is too deep. */
+static uint32_t node_to_list(const uint32_t *parents, uint32_t n)
+{
+    uint32_t *height = allocate((n + 1) * sizeof *height), *size = allocate((n + 1) * sizeof *size), best = n;
+    for (uint32_t x = n; x >= 1; x--) {
+        uint32_t parent = parents[x - 1];
+        size[x]++;
+        size[parent] += size[x];
+        if (height[parent] < height[x] + 1) height[parent] = height[x] + 1;
+        if (height[x] < 64 && size[x] >= size[best]) best = x;
+    }
+    free(height);
+    free(size);
+    return best;
+}
+
+/* Mixed questions that have an answer: children that are there, siblings up to three places away. */
+static void make_questions(struct tree *tree, uint64_t seed)
+{
+    struct chance chance = {seed};
+    uint32_t *degree = allocate((tree->n + 1) * sizeof *degree);
+    for (uint32_t x = 0; x < tree->n; x++) degree[tree->parents[x]]++;
+    for (uint32_t list = 0; list < LISTS; list++)
+        for (int32_t *q = tree->questions[list]; q < tree->questions[list] + 3 * PLQ_MOST_QUESTIONS; q += 3) {
+            q[0] = 1 + (int32_t)below(&chance, 10);
+            do q[1] = 1 + (int32_t)below(&chance, tree->n);
+            while (q[0] == PLQ_CHILD_NUMBER && degree[q[1]] == 0);
+            if (q[0] == PLQ_CHILD_NUMBER) q[2] = 1 + (int32_t)below(&chance, degree[q[1]]);
+            if (q[0] == PLQ_SIBLING_AT) q[2] = (int32_t)below(&chance, 7) - 3;
+        }
+    free(degree);
+}
+
+/* 256 trees of this shape end to end; together they are nearly as long as the tree's own string. */
+static void make_pack(struct tree *tree, enum shape shape, uint64_t seed)
+{
+    uint32_t each = (tree->n - PLQ_MOST_TREES / 2) / PLQ_MOST_TREES;
+    struct request *join = &tree->requests[JOIN];
+    plq_answer joined = {0};
+    *join = (struct request){.call = JOIN, .bytes = tree->pack_to_join, .nbytes = PACK_BYTES, .parents = tree->joined_tree, .n = each};
+    for (uint32_t k = 0; k < PLQ_MOST_TREES; k++) {
+        join->bits = joined.first;
+        join->trees = k;
+        make_tree(shape, each, PLQ_MOST_TREES * seed + k, tree->joined_tree);
+        memcpy(tree->pack_to_join, tree->pack, PACK_BYTES);
+        joined = make_call(&plain_o2, join, &(struct lent){.bytes = tree->pack});
+        require(joined.code == PLQ_DONE, "a pack cannot be made");
+    }
+    tree->requests[SPLIT] = (struct request){.call = SPLIT, .bytes = tree->pack, .nbytes = (joined.first + 7) / 8, .bits = joined.first,
+                                             .trees = PLQ_MOST_TREES, .room = PLQ_MOST_TREES, .second_room = PLQ_MOST_TREES};
+}
+
+static struct tree *new_tree(const struct kind *kind, uint64_t seed, const struct lent *lent)
+{
+    struct tree *tree = allocate(sizeof *tree);
+    uint32_t n = tree->n = kind->n;
+    tree->parents = allocate(n * sizeof *tree->parents);
+    make_tree(kind->shape, n, seed, tree->parents);
+    struct request *r = tree->requests;
+    r[IMAGE_OF_PARENTS] = (struct request){.call = IMAGE_OF_PARENTS, .parents = tree->parents, .n = n, .room = PLQ_MOST_IMAGE_BYTES};
+    r[STRING_OF_PARENTS] = (struct request){.call = STRING_OF_PARENTS, .parents = tree->parents, .n = n, .room = PACK_BYTES};
+    plq_answer image = make_call(&plain_o2, &r[IMAGE_OF_PARENTS], &(struct lent){.bytes = tree->image});
+    plq_answer string = make_call(&plain_o2, &r[STRING_OF_PARENTS], &(struct lent){.bytes = tree->string});
+    require(image.code == PLQ_DONE && string.code == PLQ_DONE, "a tree cannot be sealed");
+    const enum call of_image[] = {CHECK_IMAGE, ASK, PARENTS_OF_IMAGE, LIST};
+    for (size_t i = 0; i < sizeof of_image / sizeof *of_image; i++)
+        r[of_image[i]] = (struct request){.call = of_image[i], .bytes = tree->image, .nbytes = PLQ_BLOCK_BYTES * (size_t)tree->image[12], .room = 2 * (size_t)n};
+    r[ASK].numbers = 3 * PLQ_MOST_QUESTIONS;
+    r[LIST].node = node_to_list(tree->parents, n);
+    r[PARENTS_OF_STRING] =
+        (struct request){.call = PARENTS_OF_STRING, .bytes = tree->string, .nbytes = (string.first + 7) / 8, .bits = string.first, .room = n};
+    make_questions(tree, seed);
+    make_pack(tree, kind->shape, seed);
+    tree->listed = make_call(&plain_o2, &r[LIST], lent).first;
+    for (size_t i = 0; i < CONTESTANTS; i++)
+        if (contestants[i].peer != NULL) {
+            tree->peers[i] = contestants[i].peer->make(tree->parents, n);
+            contestants[i].peer->open(tree->peers[i]);
+        }
+    return tree;
+}
+
+static struct bed *new_bed(const struct kind *kind)
+{
+    struct bed *bed = allocate(sizeof *bed);
+    bed->kind = kind;
+    bed->lent.bytes = allocate(PLQ_MOST_IMAGE_BYTES);
+    bed->lent.numbers = allocate(2 * (size_t)kind->n * sizeof(uint32_t));
+    bed->lent.second = allocate(PLQ_MOST_TREES * sizeof(uint32_t));
+    for (uint32_t t = 0; t < kind->turns; t++) bed->trees[t] = new_tree(kind, SEED + t, &bed->lent);
+    return bed;
+}
+
+static void free_bed(struct bed *bed)
+{
+    for (uint32_t t = 0; t < bed->kind->turns; t++) {
+        for (size_t i = 0; i < CONTESTANTS; i++)
+            if (contestants[i].peer != NULL) contestants[i].peer->free(bed->trees[t]->peers[i]);
+        free(bed->trees[t]->parents);
+        free(bed->trees[t]);
+    }
+    free(bed->lent.bytes);
+    free(bed->lent.numbers);
+    free(bed->lent.second);
+    free(bed);
+}
+
+static uint32_t blocks_of(const struct bed *bed)
+{
+    return bed->trees[0]->image[12];
+}
+
+/* ---- do they all do the same? ---- */
+
+/* A peer's answers and its listing against those of the library. */
+static void compare_peer(const struct tree *tree, const struct peer *peer, const void *its_tree, const struct lent *lent)
+{
+    uint32_t expected[PLQ_MOST_QUESTIONS], answers[PLQ_MOST_QUESTIONS], *pairs = allocate(2 * (size_t)tree->n * sizeof *pairs);
+    struct request ask = tree->requests[ASK];
+    for (uint32_t list = 0; list < LISTS; list++) {
+        ask.questions = tree->questions[list];
+        make_call(&library, &ask, &(struct lent){.numbers = expected});
+        peer->answer(its_tree, ask.questions, PLQ_MOST_QUESTIONS, answers);
+        require(memcmp(answers, expected, sizeof answers) == 0, "a peer answers otherwise");
+    }
+    make_call(&library, &tree->requests[LIST], lent);
+    require(peer->list(its_tree, tree->requests[LIST].node, pairs) == tree->listed, "a peer lists other nodes");
+    require(memcmp(pairs, lent->numbers, 2 * (size_t)tree->listed * sizeof *pairs) == 0, "a peer lists in another order");
+    free(pairs);
+}
+
+/* Every call that will be timed, of each store. */
+static void compare_requests(struct comparison *comparison, const struct tree *tree)
+{
+    for (enum call call = 0; call < CALLS; call++) {
+        struct request request = tree->requests[call];
+        for (uint32_t list = 0; list < (call == ASK ? LISTS : 1); list++) {
+            request.questions = tree->questions[list];
+            compare_call(comparison, request);
+        }
+    }
+}
+
+static uint64_t compare_all(struct bed *const beds[KINDS])
+{
+    static const struct store *const stores[] = {&library, &plain_o2, &plain_o3};
+    enum { SMALL_TREES = 60, MOST_SMALL = 300, MANY_DAMAGES = 16, FEW_DAMAGES = 2 };
+    uint32_t parents[MOST_SMALL];
+    struct comparison comparison;
+    begin_comparison(&comparison, stores, sizeof stores / sizeof *stores, SEED);
+    for (uint32_t i = 0; i < SMALL_TREES; i++) {
+        uint32_t n = 1 + i * i % MOST_SMALL;
+        make_tree((enum shape)(i % 4), n, i, parents);
+        compare_tree(&comparison, parents, n, MANY_DAMAGES);
+    }
+    for (size_t k = 0; k < KINDS; k++)
+        for (uint32_t t = 0; t < kinds[k].turns; t++) {
+            const struct tree *tree = beds[k]->trees[t];
+            compare_requests(&comparison, tree);
+            compare_tree(&comparison, tree->parents, tree->n, t == 0 ? MANY_DAMAGES : FEW_DAMAGES);
+            for (size_t i = 0; i < CONTESTANTS; i++)
+                if (contestants[i].peer != NULL) compare_peer(tree, contestants[i].peer, tree->peers[i], &beds[k]->lent);
+        }
+    end_comparison(&comparison);
+    return comparison.calls;
+}
+
+/* ---- time ---- */
+
+/* Processor time of this thread alone: what other programs take between is not counted. */
+static double now_ns(void)
+{
+    struct timespec t;
+    clock_gettime(CLOCK_THREAD_CPUTIME_ID, &t);
+    return 1e9 * (double)t.tv_sec + (double)t.tv_nsec;
+}
+
+static struct tree *next_tree(struct bed *bed, const int32_t **questions)
+{
+    uint32_t turns = bed->kind->turns;
+    struct tree *tree = bed->trees[bed->turn % turns];
+    *questions = tree->questions[bed->turn / turns % LISTS];
+    bed->turn++;
+    return tree;
+}
+
+static void call_store(struct bed *bed, const struct store *store, enum call call, size_t numbers, uint32_t times)
+{
+    for (uint32_t i = 0; i < times; i++) {
+        const int32_t *questions;
+        struct tree *tree = next_tree(bed, &questions);
+        struct request r = tree->requests[call];
+        struct lent lent = bed->lent;
+        if (call == ASK) {
+            r.questions = questions;
+            r.numbers = numbers;
+        }
+        if (call == JOIN) {
+            lent.bytes = tree->pack_to_join;
+            if (r.bits % 8 != 0) lent.bytes[r.bits / 8] &= (uint8_t)(0xFF00 >> r.bits % 8); /* away with what an earlier call put there */
+        }
+        make_call(store, &r, &lent);
+    }
+}
+
+static void call_peer(struct bed *bed, size_t contestant, enum beside beside, uint32_t times)
+{
+    const struct peer *peer = contestants[contestant].peer;
+    for (uint32_t i = 0; i < times; i++) {
+        const int32_t *questions;
+        struct tree *tree = next_tree(bed, &questions);
+        void *its_tree = tree->peers[contestant];
+        if (beside == OPEN || beside == OPEN_AND_ANSWER) peer->open(its_tree);
+        if (beside == ANSWER || beside == OPEN_AND_ANSWER) peer->answer(its_tree, questions, PLQ_MOST_QUESTIONS, bed->lent.numbers);
+        if (beside == SAVE) peer->save(its_tree);
+        if (beside == WALK) peer->list(its_tree, tree->requests[LIST].node, bed->lent.numbers);
+    }
+}
+
+static int takes_part(size_t contestant, const struct row *row)
+{
+    const struct peer *peer = contestants[contestant].peer;
+    return peer == NULL || (row->beside != NOTHING && (row->beside != SAVE || peer->save != NULL));
+}
+
+/* Nanoseconds of one call: the mean of so many on each tree. */
+static double sample(struct bed *bed, size_t contestant, const struct row *row, uint32_t on_each)
+{
+    const struct contestant *who = &contestants[contestant];
+    uint32_t times = on_each * bed->kind->turns;
+    double start = now_ns();
+    if (who->peer != NULL)
+        call_peer(bed, contestant, row->beside, times);
+    else
+        call_store(bed, who->store, row->call, 3 * PLQ_MOST_QUESTIONS, times);
+    double took = now_ns() - start;
+    if (who->peer == NULL && row->answers_alone) {
+        start = now_ns();
+        call_store(bed, who->store, row->call, 0, times);
+        took -= now_ns() - start;
+    }
+    return took / times;
+}
+
+static uint32_t calls_for_a_sample(struct bed *bed, size_t contestant, const struct row *row)
+{
+    sample(bed, contestant, row, 1); /* once for the caches */
+    double one = sample(bed, contestant, row, 1);
+    return one < 100 ? 100 : (uint32_t)(sample_ns / one / bed->kind->turns) + 1;
+}
+
+/* What one row took on one bed: nanoseconds of each contestant in each round. */
+struct times {
+    uint32_t rounds;
+    int took_part[CONTESTANTS];
+    double ns[CONTESTANTS][MOST_ROUNDS];
+};
+
+static void measure(struct bed *bed, const struct row *row, struct times *times)
+{
+    uint32_t calls[CONTESTANTS] = {0};
+    for (size_t i = 0; i < CONTESTANTS; i++) {
+        times->took_part[i] = takes_part(i, row);
+        if (times->took_part[i]) calls[i] = calls_for_a_sample(bed, i, row);
+    }
+    for (uint32_t round = 0; round < times->rounds; round++)
+        for (size_t turn = 0; turn < CONTESTANTS; turn++) {
+            size_t i = (turn + round) % CONTESTANTS; /* nobody always comes first */
+            if (times->took_part[i]) times->ns[i][round] = sample(bed, i, row, calls[i]);
+        }
+}
+
+static int by_size(const void *a, const void *b)
+{
+    double x = *(const double *)a, y = *(const double *)b;
+    return (x > y) - (x < y);
+}
+
+static double median(const double *numbers, uint32_t count)
+{
+    double sorted[MOST_ROUNDS];
+    memcpy(sorted, numbers, count * sizeof *numbers);
+    qsort(sorted, count, sizeof *sorted, by_size);
+    return (sorted[(count - 1) / 2] + sorted[count / 2]) / 2;
+}
+
+static double least(const double *numbers, uint32_t count)
+{
+    double found = numbers[0];
+    for (uint32_t i = 1; i < count; i++)
+        if (numbers[i] < found) found = numbers[i];
+    return found;
+}
+
+/* The median over the rounds of the library's time over a contestant's. */
+static double ratio_to(const struct times *times, size_t contestant)
+{
+    double ratios[MOST_ROUNDS];
+    for (uint32_t round = 0; round < times->rounds; round++) ratios[round] = times->ns[LIBRARY][round] / times->ns[contestant][round];
+    return median(ratios, times->rounds);
+}
+
+/* ---- the table ---- */
+
+static void print_number(double x)
+{
+    printf(x < 10 ? "%.2f" : x < 100 ? "%.1f" : "%.0f", x);
+}
+
+/* A number, and in brackets the same of the least times; a difference of two times has no least that says anything. */
+static void print_both(double middle, double of_least, const struct row *row)
+{
+    printf(" ");
+    print_number(middle);
+    if (!row->answers_alone) {
+        printf(" (");
+        print_number(of_least);
+        printf(")");
+    }
+    printf(" |");
+}
+
+static void print_kind(const struct bed *bed, const char *row)
+{
+    printf("| %s | %s, %u nodes | %u |", row, name_of_shape(bed->kind->shape), bed->kind->n, blocks_of(bed));
+}
+
+/* Answers whether a target was missed. */
+static int print_row(struct bed *bed, const struct row *row, struct times *times)
+{
+    measure(bed, row, times);
+    char name[64];
+    uint32_t listed = 0;
+    for (uint32_t t = 0; t < bed->kind->turns; t++) listed += bed->trees[t]->listed;
+    snprintf(name, sizeof name, row->call == LIST ? "%s, %u nodes" : "%s", row->name, listed / bed->kind->turns);
+    print_kind(bed, name);
+    double library_least = least(times->ns[LIBRARY], times->rounds), ratio = ratio_to(times, PLAIN_O2);
+    int missed = row->target != 0 && ratio >= row->target + 0.005; /* as it is printed */
+    print_both(median(times->ns[LIBRARY], times->rounds) / 1000, library_least / 1000, row);
+    print_both(ratio, library_least / least(times->ns[PLAIN_O2], times->rounds), row);
+    if (row->target == 0)
+        printf(" | |");
+    else
+        printf(" %.1f | %s |", row->target, missed ? "missed" : "met");
+    for (size_t i = PLAIN_O2 + 1; i < CONTESTANTS; i++) {
+        printf(" ");
+        if (times->took_part[i]) print_number(ratio_to(times, i));
+        printf(" |");
+    }
+    printf("\n");
+    fflush(stdout);
+    return missed;
+}
+
+static void print_space(const struct bed *bed)
+{
+    const struct tree *tree = bed->trees[0];
+    double bytes = PLQ_BLOCK_BYTES * (double)blocks_of(bed);
+    print_kind(bed, "space, bits a node");
+    printf(" ");
+    print_number(8 * bytes / tree->n);
+    printf(" | | | |");
+    for (size_t i = PLAIN_O2 + 1; i < CONTESTANTS; i++) {
+        printf(" ");
+        if (contestants[i].peer != NULL) print_number(bytes / (double)contestants[i].peer->bytes(tree->peers[i]));
+        printf(" |");
+    }
+    printf("\n");
+}
+
+static void print_table(uint32_t rounds)
+{
+    static struct times times;
+    struct bed *beds[KINDS];
+    int targets = 0, missed = 0;
+    times.rounds = rounds;
+    for (size_t k = 0; k < KINDS; k++) beds[k] = new_bed(&kinds[k]);
+    printf("Compared before timing: %llu calls, all the same.\n\n", (unsigned long long)compare_all(beds));
+    printf("| call | tree | blocks | library, µs (least) | / %s (least) | target | |", plain_o2.name);
+    for (size_t i = PLAIN_O2 + 1; i < CONTESTANTS; i++)
+        printf(" / %s |", contestants[i].peer != NULL ? contestants[i].peer->name : contestants[i].store->name);
+    printf("\n|---|---|--:|--:|--:|--:|---|");
+    for (size_t i = PLAIN_O2 + 1; i < CONTESTANTS; i++) printf("--:|");
+    printf("\n");
+    for (size_t row = 0; row < ROWS; row++)
+        for (size_t k = 0; k < KINDS; k++) {
+            missed += print_row(beds[k], &rows[row], &times);
+            targets += rows[row].target != 0;
+        }
+    for (size_t k = 0; k < KINDS; k++) {
+        print_space(beds[k]);
+        free_bed(beds[k]);
+    }
+    printf("\n%d of %d targets missed.\n", missed, targets);
+}
+
+/* ---- one call alone ---- */
+
+static void repeat_call(const char *store, const char *call, const char *shape, const char *nodes, const char *times)
+{
+    static const struct {
+        const char *name;
+        const struct store *store;
+    } stores[] = {{"library", &library}, {"plain_o2", &plain_o2}, {"plain_o3", &plain_o3}};
+    const struct store *the_store = NULL;
+    const struct kind *kind = NULL;
+    enum call the_call = CALLS;
+    for (size_t s = 0; s < sizeof stores / sizeof *stores; s++)
+        if (strcmp(stores[s].name, store) == 0) the_store = stores[s].store;
+    for (enum call c = 0; c < CALLS; c++)
+        if (strcmp(name_of_call(c), call) == 0) the_call = c;
+    for (size_t k = 0; k < KINDS; k++)
+        if (strcmp(name_of_shape(kinds[k].shape), shape) == 0 && kinds[k].n == strtoul(nodes, NULL, 10)) kind = &kinds[k];
+    require(the_store != NULL && the_call != CALLS && kind != NULL, "no such store, call, or tree");
+    struct bed *bed = new_bed(kind);
+    call_store(bed, the_store, the_call, 3 * PLQ_MOST_QUESTIONS, (uint32_t)strtoul(times, NULL, 10));
+    free_bed(bed);
+}
+
+int main(int argc, char **argv)
+{
+    if (argc == 6) {
+        repeat_call(argv[1], argv[2], argv[3], argv[4], argv[5]);
+    } else {
+        unsigned long rounds = argc == 2 ? strtoul(argv[1], NULL, 10) : 0;
+        require(rounds >= 1 && rounds <= MOST_ROUNDS, "give a number of rounds, 1 to 1001, or: STORE CALL SHAPE NODES TIMES");
+        print_table((uint32_t)rounds);
+    }
+    return 0;
+}

@@ -1,0 +1,298 @@
+#include "compare.h"
+
+#include <stdio.h>
+#include <stdlib.h>
+#include <string.h>
+
+enum {
+    PACK_BYTES = (PLQ_MOST_BITS + 7) / 8,
+    MOST_NUMBERS = 2 * PLQ_MOST_NODES,
+    STRING_BITS = 4000, /* of R1 or R0 in one block of an image */
+    BEHIND = 16, /* entries behind each room, which must stay as they are */
+    PATTERN = 0xA5
+};
+
+static void *allocate(size_t bytes)
+{
+    void *at = malloc(bytes);
+    if (at == NULL) abort();
+    return at;
+}
+
+static struct lent new_lent(void)
+{
+    struct lent lent = {allocate(PLQ_MOST_IMAGE_BYTES + BEHIND), allocate((MOST_NUMBERS + BEHIND) * sizeof(uint32_t)),
+                        allocate((PLQ_MOST_TREES + 1 + BEHIND) * sizeof(uint32_t))};
+    return lent;
+}
+
+static void free_lent(struct lent *lent)
+{
+    free(lent->bytes);
+    free(lent->numbers);
+    free(lent->second);
+}
+
+void begin_comparison(struct comparison *c, const struct store *const *stores, size_t count, uint64_t seed)
+{
+    *c = (struct comparison){stores, count, 0, {seed}, new_lent(), new_lent()};
+}
+
+void end_comparison(struct comparison *c)
+{
+    free_lent(&c->expected);
+    free_lent(&c->lent);
+}
+
+static int writes_bytes(const struct request *r)
+{
+    return r->call == STRING_OF_PARENTS || r->call == IMAGE_OF_PARENTS || r->call == JOIN;
+}
+
+/* How many bytes of each lent list are looked at, those behind the room included. */
+static size_t bytes_lent(const struct request *r)
+{
+    return writes_bytes(r) ? (r->call == JOIN ? r->nbytes : r->room) + BEHIND : 0;
+}
+
+static size_t numbers_lent(const struct request *r)
+{
+    return writes_bytes(r) || r->call == CHECK_IMAGE ? 0 : (r->room + BEHIND) * sizeof(uint32_t);
+}
+
+static size_t second_lent(const struct request *r)
+{
+    return r->call == SPLIT ? (r->second_room + BEHIND) * sizeof(uint32_t) : 0;
+}
+
+static plq_answer call_afresh(const struct store *store, const struct request *r, const struct lent *lent)
+{
+    memset(lent->bytes, PATTERN, bytes_lent(r));
+    memset(lent->numbers, PATTERN, numbers_lent(r));
+    memset(lent->second, PATTERN, second_lent(r));
+    if (r->call == JOIN) memcpy(lent->bytes, r->bytes, r->nbytes);
+    return make_call(store, r, lent);
+}
+
+void compare_call(struct comparison *c, struct request r)
+{
+    plq_answer expected = call_afresh(c->stores[0], &r, &c->expected);
+    for (size_t i = 1; i < c->count; i++) {
+        plq_answer answer = call_afresh(c->stores[i], &r, &c->lent);
+        if (memcmp(&answer, &expected, sizeof answer) != 0 || memcmp(c->lent.bytes, c->expected.bytes, bytes_lent(&r)) != 0
+            || memcmp(c->lent.numbers, c->expected.numbers, numbers_lent(&r)) != 0
+            || memcmp(c->lent.second, c->expected.second, second_lent(&r)) != 0) {
+            fprintf(stderr, "%s: %s answers %u %u %u %u, %s answers %u %u %u %u, or what is lent differs\n", name_of_call(r.call), c->stores[0]->name,
+                    expected.code, expected.place, expected.first, expected.second, c->stores[i]->name, answer.code, answer.place, answer.first,
+                    answer.second);
+            exit(1);
+        }
+        c->calls++;
+    }
+}
+
+static void compare_rooms(struct comparison *c, struct request r)
+{
+    compare_call(c, r);
+    if (r.room > 0) {
+        r.room--;
+        compare_call(c, r);
+        r.room++;
+    }
+    if (r.second_room > 0) {
+        r.second_room--;
+        compare_call(c, r);
+    }
+}
+
+static void flip_bit(struct comparison *c, uint8_t *bytes, size_t bits)
+{
+    size_t at = below(&c->chance, (uint32_t)bits);
+    bytes[at / 8] ^= (uint8_t)(0x80 >> at % 8);
+}
+
+/* Exchanges two bits that stand near each other, so that the number of ones stays. */
+static void exchange_bits(struct comparison *c, uint8_t *bytes, size_t bits)
+{
+    size_t at = below(&c->chance, (uint32_t)bits), other = at + 1 + below(&c->chance, 8);
+    if (other >= bits) return;
+    uint32_t differ = (bytes[at / 8] >> (7 - at % 8) ^ bytes[other / 8] >> (7 - other % 8)) & 1;
+    bytes[at / 8] ^= (uint8_t)(differ << (7 - at % 8));
+    bytes[other / 8] ^= (uint8_t)(differ << (7 - other % 8));
+}
+
+/* Makes the sums of a block right, whatever it holds. */
+static void reseal(uint8_t *image, size_t block)
+{
+    uint32_t s = (uint32_t)block, t = 0, word;
+    uint8_t *at = image + PLQ_BLOCK_BYTES * block, *end = at + PLQ_BLOCK_BYTES - 8;
+    for (; at < end; at += 4) {
+        memcpy(&word, at, 4);
+        s += word;
+        t += s;
+    }
+    memcpy(at, &s, 4);
+    memcpy(at + 4, &t, 4);
+}
+
+static void compare_on_image(struct comparison *c, const uint8_t *image, size_t nbytes, uint32_t n)
+{
+    int32_t none[3] = {0};
+    uint32_t node = 1 + below(&c->chance, n);
+    compare_call(c, (struct request){.call = CHECK_IMAGE, .bytes = image, .nbytes = nbytes});
+    compare_call(c, (struct request){.call = PARENTS_OF_IMAGE, .bytes = image, .nbytes = nbytes, .room = n});
+    compare_call(c, (struct request){.call = ASK, .bytes = image, .nbytes = nbytes, .questions = none, .numbers = 3, .room = 1});
+    compare_call(c, (struct request){.call = LIST, .bytes = image, .nbytes = nbytes, .node = node, .room = 2 * (size_t)n});
+}
+
+static void compare_damaged_images(struct comparison *c, const uint8_t *image, size_t nbytes, uint32_t n, uint32_t damages)
+{
+    uint8_t *copy = allocate(PLQ_MOST_IMAGE_BYTES + PLQ_BLOCK_BYTES);
+    uint32_t blocks = (uint32_t)(nbytes / PLQ_BLOCK_BYTES);
+    memset(copy, 0, PLQ_MOST_IMAGE_BYTES + PLQ_BLOCK_BYTES);
+    memcpy(copy, image, nbytes);
+    const size_t sizes[] = {0, 1, PLQ_BLOCK_BYTES, nbytes - PLQ_BLOCK_BYTES, nbytes - 1, nbytes + 1, nbytes + PLQ_BLOCK_BYTES};
+    for (size_t i = 0; i < sizeof sizes / sizeof *sizes; i++) compare_on_image(c, copy, sizes[i], n);
+    for (uint32_t i = 0; i < damages; i++) {
+        uint32_t block = below(&c->chance, blocks);
+        uint8_t *damaged = copy + PLQ_BLOCK_BYTES * (size_t)block;
+        memcpy(copy, image, nbytes);
+        switch (i % 4) {
+        case 0: flip_bit(c, damaged, 8 * PLQ_BLOCK_BYTES); break; /* as a reader would meet it */
+        case 1: /* a number of the header, a count or a sample, off by a little */
+            if (block == 0) damaged += 4 * below(&c->chance, 4);
+            *damaged = (uint8_t)(*damaged + 1 + below(&c->chance, 3));
+            break;
+        case 2: /* a one of the first block of R1 or R0 moves by a little, perhaps to where no tree has it */
+            block = 1 + below(&c->chance, 2) * ((n + STRING_BITS - 1) / STRING_BITS);
+            exchange_bits(c, copy + PLQ_BLOCK_BYTES * (size_t)block + 4, n < STRING_BITS ? n + 8 : STRING_BITS);
+            break;
+        default: flip_bit(c, damaged, 8 * (PLQ_BLOCK_BYTES - 8)); break;
+        }
+        if (i % 4 != 0) reseal(copy, block);
+        compare_on_image(c, copy, nbytes, n);
+    }
+    free(copy);
+}
+
+static void compare_bits(struct comparison *c, const uint8_t *bytes, size_t nbytes, size_t bits, size_t trees, const uint32_t *parents, uint32_t n)
+{
+    compare_call(c, (struct request){.call = PARENTS_OF_STRING, .bytes = bytes, .nbytes = nbytes, .bits = bits, .room = PLQ_MOST_NODES});
+    compare_call(c, (struct request){.call = SPLIT, .bytes = bytes, .nbytes = nbytes, .bits = bits, .trees = trees, .room = trees, .second_room = trees});
+    compare_call(c, (struct request){.call = JOIN, .bytes = bytes, .nbytes = nbytes, .bits = bits, .trees = trees, .parents = parents, .n = n});
+}
+
+static void compare_strings(struct comparison *c, const uint8_t *string, size_t bits, size_t trees, const uint32_t *parents, uint32_t n, uint32_t damages)
+{
+    uint8_t *copy = allocate(PACK_BYTES + BEHIND);
+    size_t nbytes = (bits + 7) / 8;
+    memset(copy, 0, PACK_BYTES + BEHIND);
+    memcpy(copy, string, nbytes);
+    struct request join = {.call = JOIN, .bytes = copy, .bits = bits, .trees = trees, .parents = parents, .n = n};
+    for (join.nbytes = nbytes - 1; join.nbytes < nbytes + 2 && join.nbytes < PACK_BYTES; join.nbytes++) compare_call(c, join);
+    join.nbytes = (bits + 2 * (size_t)n + 8) / 8;
+    if (join.nbytes <= PACK_BYTES) {
+        compare_call(c, join);
+        join.nbytes--;
+        compare_call(c, join);
+    }
+    compare_rooms(c, (struct request){.call = SPLIT, .bytes = copy, .nbytes = nbytes, .bits = bits, .trees = trees, .room = trees, .second_room = trees});
+    compare_bits(c, copy, nbytes, bits, trees + 1, parents, n);
+    compare_bits(c, copy, nbytes, bits, PLQ_MOST_TREES + 1, parents, n);
+    compare_bits(c, copy, nbytes + 1, bits, trees, parents, n);
+    compare_bits(c, copy, nbytes, 8 * nbytes + 1, trees, parents, n);
+    compare_bits(c, copy, 0, 0, 0, parents, n);
+    for (uint32_t i = 0; i < damages; i++) {
+        size_t used = i % 4 == 3 ? below(&c->chance, (uint32_t)bits + 1) : bits;
+        memcpy(copy, string, nbytes);
+        if (i % 4 < 2)
+            flip_bit(c, copy, 8 * nbytes);
+        else if (i % 4 == 2)
+            exchange_bits(c, copy, bits);
+        compare_bits(c, copy, (used + 7) / 8, used, trees, parents, n);
+        if (used % 8 != 0) copy[used / 8] &= (uint8_t)(0xFF00 >> used % 8); /* cut, with nothing left over */
+        compare_bits(c, copy, (used + 7) / 8, used, trees, parents, n);
+    }
+    free(copy);
+}
+
+static void compare_parents(struct comparison *c, const uint32_t *parents, uint32_t n, const uint8_t *pack, size_t bits, size_t trees, uint32_t damages)
+{
+    uint32_t *copy = allocate((PLQ_MOST_NODES + 1) * sizeof *copy);
+    size_t nbytes = (bits + 7) / 8;
+    memset(copy, 0, (PLQ_MOST_NODES + 1) * sizeof *copy);
+    memcpy(copy, parents, n * sizeof *copy);
+    for (uint32_t i = 0; i < damages; i++) {
+        size_t used = i == 0 ? 0 : i == 1 ? PLQ_MOST_NODES + 1 : n;
+        uint32_t at = below(&c->chance, n), before = copy[at];
+        if (i > 2) copy[at] = i % 4 == 0 ? below(&c->chance, n + 2) : before - 2 + below(&c->chance, 5);
+        compare_call(c, (struct request){.call = STRING_OF_PARENTS, .parents = copy, .n = used, .room = PACK_BYTES});
+        compare_call(c, (struct request){.call = IMAGE_OF_PARENTS, .parents = copy, .n = used, .room = PLQ_MOST_IMAGE_BYTES});
+        compare_call(c, (struct request){.call = JOIN, .bytes = pack, .nbytes = nbytes, .bits = bits, .trees = trees, .parents = copy, .n = used});
+        copy[at] = before;
+    }
+    free(copy);
+}
+
+static void compare_questions(struct comparison *c, const uint8_t *image, size_t nbytes, uint32_t n, uint32_t damages)
+{
+    static const int32_t extremes[] = {INT32_MIN, INT32_MIN + 1, -1, 0, 1, INT32_MAX};
+    int32_t questions[3 * PLQ_MOST_QUESTIONS + 3];
+    struct request ask = {.call = ASK, .bytes = image, .nbytes = nbytes, .questions = questions, .room = PLQ_MOST_QUESTIONS};
+    for (uint32_t i = 0; i < damages; i++) {
+        for (uint32_t k = 0; k <= PLQ_MOST_QUESTIONS; k++) {
+            int32_t kind = 1 + (int32_t)below(&c->chance, 10), argument = 0;
+            if (kind == PLQ_CHILD_NUMBER || kind == PLQ_SIBLING_AT)
+                argument = below(&c->chance, 8) == 0 ? extremes[below(&c->chance, 6)] : (int32_t)below(&c->chance, 12) - 6;
+            questions[3 * k] = kind;
+            questions[3 * k + 1] = 1 + (int32_t)below(&c->chance, n);
+            questions[3 * k + 2] = argument;
+        }
+        if (i % 4 == 1) questions[below(&c->chance, 3 * PLQ_MOST_QUESTIONS)] = extremes[below(&c->chance, 6)];
+        if (i % 4 == 2) questions[3 * below(&c->chance, PLQ_MOST_QUESTIONS) + 1] = (int32_t)n + 1;
+        ask.numbers = i % 4 == 3 ? below(&c->chance, 3 * PLQ_MOST_QUESTIONS + 4) : 3 * PLQ_MOST_QUESTIONS;
+        ask.room = ask.numbers / 3;
+        compare_rooms(c, ask);
+    }
+    struct request list = {.call = LIST, .bytes = image, .nbytes = nbytes, .room = 2 * (size_t)n};
+    for (uint32_t i = 0; i < damages; i++) {
+        list.node = i < 3 ? i : i == 3 ? n + 1 : 1 + below(&c->chance, n);
+        compare_call(c, list);
+    }
+}
+
+void compare_tree(struct comparison *c, const uint32_t *parents, uint32_t n, uint32_t damages)
+{
+    const struct store *first = c->stores[0];
+    uint8_t *image = allocate(PLQ_MOST_IMAGE_BYTES), *string = allocate(PACK_BYTES);
+    struct lent to_image = {image, NULL, NULL}, to_string = {string, NULL, NULL};
+    struct request make_image = {.call = IMAGE_OF_PARENTS, .parents = parents, .n = n, .room = PLQ_MOST_IMAGE_BYTES};
+    struct request make_string = {.call = STRING_OF_PARENTS, .parents = parents, .n = n, .room = (2 * (size_t)n + 8) / 8};
+    make_call(first, &make_image, &to_image);
+    make_call(first, &make_string, &to_string);
+    size_t nbytes = PLQ_BLOCK_BYTES * (image[12] + 256 * (size_t)image[13]), bits = 2 * (size_t)n + 1;
+    compare_call(c, make_image);
+    make_image.room = nbytes;
+    compare_rooms(c, make_image);
+    compare_rooms(c, make_string);
+    compare_rooms(c, (struct request){.call = PARENTS_OF_IMAGE, .bytes = image, .nbytes = nbytes, .room = n});
+    compare_rooms(c, (struct request){.call = PARENTS_OF_STRING, .bytes = string, .nbytes = (bits + 7) / 8, .bits = bits, .room = n});
+    compare_rooms(c, (struct request){.call = LIST, .bytes = image, .nbytes = nbytes, .node = 1, .room = 2 * (size_t)n});
+    compare_on_image(c, image, nbytes, n);
+    compare_damaged_images(c, image, nbytes, n, damages);
+    compare_strings(c, string, bits, 1, parents, n, damages);
+    compare_parents(c, parents, n, string, bits, 1, damages);
+    compare_questions(c, image, nbytes, n, damages);
+
+    /* a pack of a few trees: this one behind itself, as long as it fits */
+    uint8_t *pack = allocate(PACK_BYTES + BEHIND);
+    struct lent to_pack = {pack, NULL, NULL};
+    struct request join = {.call = JOIN, .nbytes = PACK_BYTES, .parents = parents, .n = n};
+    memset(pack, 0, PACK_BYTES + BEHIND);
+    for (plq_answer joined; join.trees < 5 && (joined = make_call(first, &join, &to_pack)).code == PLQ_DONE; join.trees = joined.second)
+        join.bits = joined.first;
+    if (join.trees > 1) compare_strings(c, pack, join.bits, join.trees, parents, n, damages);
+    free(pack);
+    free(image);
+    free(string);
+}

@@ -1,0 +1,28 @@
+/* Do several stores do the same? Figures about stores that differ would say nothing. */
+#ifndef BENCH_COMPARE_H
+#define BENCH_COMPARE_H
+
+#include "calls.h"
+#include "shapes.h"
+
+struct comparison {
+    const struct store *const *stores; /* each is held against the first */
+    size_t count;
+    uint64_t calls; /* compared so far */
+    struct chance chance;
+    struct lent expected, lent;
+};
+
+void begin_comparison(struct comparison *comparison, const struct store *const *stores, size_t count, uint64_t seed);
+void end_comparison(struct comparison *comparison);
+
+/* Makes one call of each store. All answers and every byte of what is lent, and of some entries behind it, must be the same;
+ * else it says where they differ and ends the program. What is lent is this comparison's own; for join it is a copy of the
+ * request's bytes. */
+void compare_call(struct comparison *comparison, struct request request);
+
+/* Makes every call on this tree: as it should be, with too little room, and on damaged images, strings, packs, parent lists and
+ * questions, `damages` of each. */
+void compare_tree(struct comparison *comparison, const uint32_t *parents, uint32_t n, uint32_t damages);
+
+#endif

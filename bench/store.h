@@ -1,0 +1,31 @@
+/* A plain C store: the nine calls of parlaqen.h once more, written by hand from the same rules, with the same answers and
+ * refusals. Nothing of it is proved. It is what the benchmark holds the library against. */
+#ifndef BENCH_STORE_H
+#define BENCH_STORE_H
+
+#include "parlaqen.h"
+
+/* One store as the benchmark sees it: its name and its nine calls, each as parlaqen.h describes it. */
+struct store {
+    const char *name;
+    plq_answer (*string_of_parents)(const uint32_t *parents, size_t n, uint8_t *bytes, size_t room);
+    plq_answer (*parents_of_string)(const uint8_t *bytes, size_t nbytes, size_t bits, uint32_t *parents, size_t room);
+    plq_answer (*image_of_parents)(const uint32_t *parents, size_t n, uint8_t *image, size_t room);
+    plq_answer (*parents_of_image)(const uint8_t *image, size_t nbytes, uint32_t *parents, size_t room);
+    plq_answer (*check_image)(const uint8_t *image, size_t nbytes);
+    plq_answer (*ask)(const uint8_t *image, size_t nbytes, const int32_t *questions, size_t numbers, uint32_t *answers, size_t room);
+    plq_answer (*split)(const uint8_t *bytes, size_t nbytes, size_t bits, size_t trees, uint32_t *starts, size_t starts_room,
+                        uint32_t *sizes, size_t sizes_room);
+    plq_answer (*join)(uint8_t *pack, size_t nbytes, size_t bits, size_t trees, const uint32_t *parents, size_t n);
+    plq_answer (*list)(const uint8_t *image, size_t nbytes, uint32_t node, uint32_t *pairs, size_t room);
+};
+
+/* The nine calls whose names begin with `prefix`, in the order of struct store. */
+#define CALLS_OF(prefix) \
+    prefix##string_of_parents, prefix##parents_of_string, prefix##image_of_parents, prefix##parents_of_image, \
+    prefix##check_image, prefix##ask, prefix##split, prefix##join, prefix##list
+
+/* store.c is compiled once for each of these, with other flags each time, so that one program holds them all. */
+extern const struct store plain_o2, plain_o3;
+
+#endif

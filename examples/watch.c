@@ -1,0 +1,68 @@
+/* What the watch does with its days: lays their tree strings end to end in one small buffer, and what the phone does
+ * with the buffer: splits it and reads each day back.
+ *
+ *     watch [BIT]     with BIT that bit, from 1, is changed on the way
+ *
+ * Where the number of days is known, no odd number of changed bits goes unnoticed.
+ * Exit status: 0 all days read back, 1 refused by the library, 2 there is no such bit. */
+#include "refusal.h"
+#include <stdlib.h>
+#include <string.h>
+
+enum { DAYS = 3, MOST_NODES = 7, PACK_BYTES = 16 };
+
+static const struct {
+    size_t nodes;
+    uint32_t parents[MOST_NODES];
+} days[DAYS] = {
+    {7, {0, 1, 1, 1, 2, 2, 4}}, /* three runs: the first of two laps, the second of none, the third of one */
+    {1, {0}},                   /* a day off */
+    {4, {0, 1, 2, 2}},          /* one run of two laps */
+};
+
+/* Moves the bits from bit `start` of the pack, from 1, to bit 1 of `part`, and clears the rest of its last byte. */
+static void move_part(const uint8_t *pack, size_t start, size_t bits, uint8_t *part)
+{
+    memset(part, 0, (bits + 7) / 8);
+    for (size_t to = 0, from = start - 1; to < bits; to++, from++)
+        if (pack[from / 8] & 0x80 >> from % 8) part[to / 8] |= (uint8_t)(0x80 >> to % 8);
+}
+
+int main(int words, char **word)
+{
+    uint8_t pack[PACK_BYTES] = {0};
+    size_t bits = 0, trees = 0;
+
+    for (size_t day = 0; day < DAYS; day++) {
+        plq_answer joined = plq_join(pack, sizeof pack, bits, trees, days[day].parents, days[day].nodes);
+        if (joined.code != PLQ_DONE) return refused("joining", joined);
+        bits = joined.first;
+        trees = joined.second;
+    }
+
+    if (words > 1) {
+        unsigned long changed = strtoul(word[1], NULL, 10);
+        if (changed < 1 || changed > bits) {
+            fprintf(stderr, "usage: watch [BIT], with a bit from 1 to %zu\n", bits);
+            return 2;
+        }
+        pack[(changed - 1) / 8] ^= (uint8_t)(0x80 >> (changed - 1) % 8);
+    }
+    printf("%zu days in %zu bits\n", trees, bits);
+
+    uint32_t starts[DAYS], sizes[DAYS];
+    plq_answer split = plq_split(pack, (bits + 7) / 8, bits, trees, starts, DAYS, sizes, DAYS);
+    if (split.code != PLQ_DONE) return refused("splitting", split);
+    for (size_t day = 0; day < DAYS; day++) {
+        uint8_t part[PACK_BYTES];
+        uint32_t parents[MOST_NODES];
+        size_t part_bits = 2 * (size_t)sizes[day] + 1;
+        move_part(pack, starts[day], part_bits, part);
+        plq_answer read = plq_parents_of_string(part, (part_bits + 7) / 8, part_bits, parents, MOST_NODES);
+        if (read.code != PLQ_DONE) return refused("reading a day", read);
+        printf("from bit %u, %u nodes, parents", (unsigned)starts[day], (unsigned)sizes[day]);
+        for (size_t node = 0; node < read.first; node++) printf(" %u", (unsigned)parents[node]);
+        printf("\n");
+    }
+    return 0;
+}
