@@ -20,7 +20,7 @@ use Rattle.image.specs.declared.Image.{Image}
 use Rattle.image.specs.declared.Checked.{Checked}
 use Rattle.image.specs.declared.Checked.the-variants.{Sound, Refused}
 use Rattle.image.specs.Checked.{answered, checked}
-use Rattle.image.specs.Threads.{InRuns}
+use Rattle.image.specs.Spread.{InRuns}
 use Rattle.image.proofs.Finding.{IsSound, comesTo, rows-checked, sound-known}
 
 -- ---- the check

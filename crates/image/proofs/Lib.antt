@@ -1,4 +1,7 @@
-pub mod Threading
+pub mod Pieces
+pub mod Placing
+pub mod Spreading
+pub mod Weaving
 pub mod Finding
 pub mod Calling
 pub mod Promises

@@ -1,3 +1,3 @@
 pub mod Checked
-pub mod Threads
+pub mod Spread
 pub mod Promises

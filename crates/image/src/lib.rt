@@ -1,13 +1,15 @@
 // The whole check of an image, and what is read from a checked one.
 ghost use mathlib.Core.Path.{_≡_};
-ghost use Prim.Native.Nat.{_+_, _*_, _≤_};
+ghost use mathlib.Core.List.{[], _∷_, _++_};
+ghost use Prim.Native.Nat.{_+_, _*_, _/_, _≤_, _<_};
 ghost use lib.ListN.{drop, length};
 ghost use Rattle.meaning.specs.Answers.{cameTo, written};
+ghost use Rattle.meaning.specs.Bytes.{bitAt, bitsFrom, value};
 ghost use Rattle.meaning.specs.Calls.{checkImage, parentsOfImage};
-ghost use Rattle.meaning.specs.Image.{stringBlocks, stringIn};
-ghost use Rattle.meaning.specs.Strings.{parentsOf, woven};
+ghost use Rattle.meaning.specs.Image.{stringIn};
+ghost use Rattle.meaning.specs.Strings.{ones, parentsOf, woven};
 ghost use Rattle.theory.specs.Stages.{Header, samplesFrom, zerosFrom};
-ghost use Rattle.image.specs.Threads.{InRuns, upToOne};
+ghost use Rattle.image.specs.Spread.{InRuns, Placed, SpreadOut, spread};
 ghost use Rattle.image.specs.Checked.{answered, checked, imageIn};
 use blocks::sample_blocks;
 use blocks::samples_from;
@@ -18,7 +20,6 @@ use meaning::Answer;
 use meaning::done;
 use meaning::refuse;
 use stages::stages_pass;
-use stages::string_bit;
 
 // What a checked image is: n and m, its blocks, and the blocks at which R0 and the samples of R1 and of R0 begin.
 pub struct Image {
@@ -93,25 +94,126 @@ pub fn check(b: &[u8]) -> Checked
     Checked::Sound(image_in(b, blocks))
 }
 
-// The position, from 1, of the first one of R0 after its first z bits. The last bit is always one, and is not looked at.
-fn next_one(b: &[u8], zeros: usize, n: usize, z: usize) -> usize
-    requires { ⌜ z ≤ n ⌝ }
-    requires { ⌜ n ≤ 65535 ⌝ }
-    requires { ⌜ zeros ≤ 53 ⌝ }
-    requires { do ⌜ 512 * (zeros + stringBlocks (n + 1)) ≤ (← ⟦b.len()⟧) ⌝ }
-    ensures { λ r. ⌜ r ≡ z + upToOne (drop z (stringIn (now (b .entry)) zeros 0 (n + 1))) ⌝ }
+// Bit j of a byte as a number.
+fn bit_of(x: u8, j: usize) -> usize
+    requires { ⌜ j < 8 ⌝ }
+    ensures { λ r. ⌜ r ≡ value (bitAt (x ∷ []) j) ⌝ }
 {
-    let mut x = z;
-    while x < n {
-        if string_bit(b, zeros, x) != 0 {
-            return x + 1;
-        }
-        x += 1;
-    }
-    n + 1
+    ((x >> (7 - j)) & 1) as usize
 }
 
-// Writes the parents that R1 and R0 give: a node has the parent of the node before it, unless that one ends a run of ones.
+// Of the first n bits of a byte, which i bits come before, writes the position of each one, the last of them before entry k of `out`, and
+// answers the entry of the first. A zero writes too, and what comes next writes over it, so that nothing branches on a bit.
+fn place_byte(x: u8, n: usize, i: usize, k: usize, out: &mut [u32]) -> usize
+    requires { ⌜ n ≤ 8 ⌝ }
+    requires { ⌜ i + n ≤ 65535 ⌝ }
+    requires { ⌜ ones (bitsFrom (x ∷ []) 0 n) < k ⌝ }
+    requires { ⌜ k ≤ length (now out) ⌝ }
+    ensures { λ r. ⌜ Placed (bitsFrom (x ∷ []) 0 n) i k (now (out .entry)) (now (out .exit)) r ⌝ }
+{
+    let mut low = k;
+    let mut bit = n;
+    while 0 < bit {
+        bit -= 1;
+        out[low - 1] = (i + bit + 1) as u32;
+        low -= bit_of(x, bit);
+    }
+    low
+}
+
+// The same of n bits from byte `at` on.
+fn place_block(b: &[u8], at: usize, n: usize, i: usize, k: usize, out: &mut [u32]) -> usize
+    requires { ⌜ n ≤ 4000 ⌝ }
+    requires { ⌜ i + n ≤ 65535 ⌝ }
+    requires { do ⌜ at + 501 ≤ (← ⟦b.len()⟧) ⌝ }
+    requires { ⌜ ones (bitsFrom (now b) (8 * at) n) < k ⌝ }
+    requires { ⌜ k ≤ length (now out) ⌝ }
+    ensures { λ r. ⌜ Placed (bitsFrom (now (b .entry)) (8 * at) n) i k (now (out .entry)) (now (out .exit)) r ⌝ }
+{
+    let mut w = n / 8;
+    let mut low = place_byte(b[at + w], n % 8, i + 8 * w, k, out);
+    while 0 < w {
+        w -= 1;
+        let x = b[at + w];
+        // the leaves at the end of a tree are many bytes of zeros
+        if x != 0 {
+            low = place_byte(x, 8, i + 8 * w, low, out);
+        }
+    }
+    low
+}
+
+// The same of the first n bits of the string whose blocks begin at block `first`, which has one bit more; the last position goes to entry n - 1.
+fn place_string(b: &[u8], first: usize, n: usize, out: &mut [u32]) -> usize
+    requires { ⌜ n ≤ 65535 ⌝ }
+    requires { ⌜ first ≤ 53 ⌝ }
+    requires { do ⌜ 512 * (first + n / 4000 + 1) ≤ (← ⟦b.len()⟧) ⌝ }
+    requires { ⌜ ones (stringIn (now b) first 0 n) < n ⌝ }
+    requires { ⌜ n ≤ length (now out) ⌝ }
+    ensures { λ r. ⌜ Placed (stringIn (now (b .entry)) first 0 n) 0 n (now (out .entry)) (now (out .exit)) r ⌝ }
+{
+    let mut j = n / 4000;
+    let mut low = place_block(b, 512 * (first + j) + 4, n % 4000, 4000 * j, n, out);
+    while 0 < j {
+        j -= 1;
+        low = place_block(b, 512 * (first + j) + 4, 4000, 4000 * j, low, out);
+    }
+    low
+}
+
+// For each of the first n bits of a byte, from entry i on, writes the number at entry p; a one moves p on. Answers where p comes to. It never falls behind what is written.
+fn spread_byte(x: u8, n: usize, i: usize, p: usize, out: &mut [u32]) -> usize
+    requires { ⌜ n ≤ 8 ⌝ }
+    requires { ⌜ i + n ≤ p + ones (bitsFrom (x ∷ []) 0 n) ⌝ }
+    requires { ⌜ p + ones (bitsFrom (x ∷ []) 0 n) < length (now out) ⌝ }
+    ensures { λ r. ⌜ SpreadOut (bitsFrom (x ∷ []) 0 n) i p (now (out .entry)) (now (out .exit)) r ⌝ }
+{
+    let mut from = p;
+    let mut bit: usize = 0;
+    while bit < n {
+        out[i + bit] = out[from];
+        from += bit_of(x, bit);
+        bit += 1;
+    }
+    from
+}
+
+// The same of n bits from byte `at` on.
+fn spread_block(b: &[u8], at: usize, n: usize, i: usize, p: usize, out: &mut [u32]) -> usize
+    requires { ⌜ n ≤ 4000 ⌝ }
+    requires { do ⌜ at + 501 ≤ (← ⟦b.len()⟧) ⌝ }
+    requires { ⌜ i + n ≤ p + ones (bitsFrom (now b) (8 * at) n) ⌝ }
+    requires { ⌜ p + ones (bitsFrom (now b) (8 * at) n) < length (now out) ⌝ }
+    ensures { λ r. ⌜ SpreadOut (bitsFrom (now (b .entry)) (8 * at) n) i p (now (out .entry)) (now (out .exit)) r ⌝ }
+{
+    let mut from = p;
+    let mut w: usize = 0;
+    while w < n / 8 {
+        from = spread_byte(b[at + w], 8, i + 8 * w, from, out);
+        w += 1;
+    }
+    spread_byte(b[at + w], n % 8, i + 8 * w, from, out)
+}
+
+// The same of the first n bits of R1, which has one bit more, from entry 0 on.
+fn spread_string(b: &[u8], n: usize, p: usize, out: &mut [u32])
+    requires { ⌜ n ≤ 65535 ⌝ }
+    requires { do ⌜ 512 * (1 + n / 4000 + 1) ≤ (← ⟦b.len()⟧) ⌝ }
+    requires { ⌜ n ≤ p + ones (stringIn (now b) 1 0 n) ⌝ }
+    requires { ⌜ p + ones (stringIn (now b) 1 0 n) < length (now out) ⌝ }
+    ensures { λ _. ⌜ now (out .exit) ≡ spread (stringIn (now (b .entry)) 1 0 n) (drop p (now (out .entry))) ++ drop n (now (out .entry)) ⌝ }
+{
+    let mut from = p;
+    let mut j: usize = 0;
+    while j < n / 4000 {
+        from = spread_block(b, 512 * (1 + j) + 4, 4000, 4000 * j, from, out);
+        j += 1;
+    }
+    spread_block(b, 512 * (1 + j) + 4, n % 4000, 4000 * j, from, out);
+}
+
+// Writes the parents that R1 and R0 give: the nodes with children, which the ones of R0 before its last bit name, go to the end of the list behind
+// a 0 for the root's parent, and are spread from there over the list. The last node's parent then stands there already.
 fn write_parents(b: &[u8], zeros: usize, n: usize, out: &mut [u32])
     requires { ⌜ n ≤ 65535 ⌝ }
     requires { ⌜ zeros ≡ zerosFrom n ⌝ }
@@ -120,15 +222,9 @@ fn write_parents(b: &[u8], zeros: usize, n: usize, out: &mut [u32])
     requires { ⌜ n ≤ length (now out) ⌝ }
     ensures { λ _. ⌜ now (out .exit) ≡ written (parentsOf (woven (stringIn (now (b .entry)) 1 0 n) (stringIn (now (b .entry)) zeros 0 (n + 1)))) (now (out .entry)) ⌝ }
 {
-    let mut z: usize = 0;
-    let mut i: usize = 0;
-    while i < n {
-        out[i] = z as u32;
-        if string_bit(b, 1, i) != 0 {
-            z = next_one(b, zeros, n, z);
-        }
-        i += 1;
-    }
+    let root = place_string(b, zeros, n, out) - 1;
+    out[root] = 0;
+    spread_string(b, n - 1, root, out);
 }
 
 // The public check: n and m of a sound image, or the refusal.

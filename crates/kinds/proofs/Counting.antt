@@ -3,6 +3,7 @@ use mathlib.Core.Path.{_≡_, refl, ap, _∙_}
 use mathlib.Core.List.{List, [], _∷_}
 use Prim.Native.Nat.{ℕ, zero, suc, _+_, _-_, _≤_, _<_}
 use native.Mathlib.Omega.{arith}
+use native.Mathlib.Decide.{decLe}
 use lib.ListN.{length, getD, take}
 use Rattle.meaning.specs.Strings.{Bit, O, I, ones}
 use Rattle.meaning.specs.Bytes.{value}
@@ -100,3 +101,30 @@ next-right (I ∷ r) (suc i) h = omega (arith, next-right r i (omega arith))
 pub right-from : (r : List Bit) (x : ℕ) → onesLeft r x < ones r → x ≤ position r (suc (onesLeft r x))
 unfolding onesLeft
 right-from r x h = omega (arith, next-right r (x - 1) h)
+
+-- a one stands where the ones left of it say
+one-there : (r : List Bit) (i : ℕ) → i < length r → value (getD r i I) ≡ 1 → position r (suc (ones (take i r))) ≡ suc i
+unfolding value
+one-there [] i h e = absurd (omega arith)
+one-there (O ∷ r) zero h e = absurd (omega arith)
+one-there (I ∷ r) zero h e = ap suc (position-zero r)
+one-there (O ∷ r) (suc i) h e = ap suc (one-there r i (omega arith) e)
+one-there (I ∷ r) (suc i) h e = ap suc (one-there r i (omega arith) e)
+
+pub position-of-one : (r : List Bit) (x : ℕ) → 1 ≤ x → x ≤ length r → value (bitOf r x) ≡ 1 → position r (suc (onesLeft r x)) ≡ x
+unfolding onesLeft
+position-of-one r x g h e = omega (arith, one-there r (x - 1) (omega arith) e)
+
+-- a zero is not the last bit
+pub zero-not-last : (m : ℕ) (r : List Bit) (x : ℕ) → Ended m r → 1 ≤ x → x ≤ length r → value (bitOf r x) ≡ 0 → x < length r
+unfolding value
+zero-not-last m r x e g h z = elim (decLe (suc x) (length r)) [
+  | yes l ↦ l
+  | no l ↦ absurd (
+      omega (
+        arith,
+        z,
+        ap value (any-else r (x - 1) (omega arith) ∙ ap (λ n. getD r n O) (let f : x - 1 ≡ length r - 1 = omega arith in f) ∙ e .last),
+      )
+      )
+]

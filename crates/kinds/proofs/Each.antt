@@ -24,7 +24,7 @@ use Rattle.bits.proofs.Values.{is-O, is-I}
 use Rattle.kinds.specs.declared.Signed.{Signed}
 use Rattle.kinds.specs.Values.{signed, valueOf, moved}
 use Rattle.kinds.proofs.Counting.{left-next, left-of-one, left-after-one, left-before, right-from, position-less}
-use Rattle.kinds.proofs.Own.{strings, more1, more0}
+use Rattle.kinds.proofs.Own.{strings, more1, more0, placed1}
 
 -- ---- a number within bounds
 
@@ -221,20 +221,36 @@ module _ (bytes : List ℕ) (i : Image) (found : checked bytes ≡ Sound i) (x :
         ∙ sym (inside (before r1 r0 x) (before r1 r0 (suc x)) (before r1 r0 (suc x)) children (omega arith))
         )
 
-    module _ (k low high : ℕ) (left : k ≡ onesLeft r0 x) (from : low ≡ position r1 (k + 1)) (to : high ≡ position r1 (k + 2)) where
+    module _ (k low : ℕ) (left : k ≡ onesLeft r0 x) (from : low ≡ position r1 (k + 1)) where
+      pub next-there : low + 1 ≤ i .nodes
+      next-there = omega (arith, apart k left, placed1 bytes i found (k + 2))
+
       low-is : low ≡ before r1 r0 x
       low-is = from ∙ ap (λ n. position r1 (n + 1)) left ∙ sym (children-low r1 r0 x g in-r0)
 
-      high-is : high ≡ before r1 r0 (suc x)
-      high-is = to ∙ ap (λ n. position r1 (n + 2)) left ∙ sym (children-high r1 r0 x g in-r0 set)
+      module _ (high : ℕ) (to : high ≡ position r1 (onesLeft r1 (low + 1) + 1)) where
+        -- the first one after one number k + 1
+        after : onesLeft r1 (low + 1) ≡ k + 1
+        after =
+            ap (onesLeft r1) (let e : low + 1 ≡ suc (position r1 (k + 1)) = omega arith in e)
+            ∙ left-after-one r1 (k + 1) (omega (arith, one-more, strings bytes i found .ended1 .count))
 
-      pub degree-some : Answers degree (pos 0) (high - low)
-      unfolding byStrings
-      degree-some = given degree (pos 0) (high - low) (ap₂ _-_ high-is low-is)
+        high-at : high ≡ position r1 (k + 2)
+        high-at = to ∙ ap (position r1) (let e : onesLeft r1 (low + 1) + 1 ≡ k + 2 = omega (arith, after) in e)
 
-      pub child-some : (y : ℕ) (z : ℤ) → y ≡ within low high (moved low z) → Answers child z y
-      unfolding byStrings
-      child-some y z f = given child z y (f ∙ ap₂ (λ a b. within a b (moved a z)) low-is high-is ∙ sym (child-within r1 r0 x g in-r0 z))
+        high-is : high ≡ before r1 r0 (suc x)
+        high-is = high-at ∙ ap (λ n. position r1 (n + 2)) left ∙ sym (children-high r1 r0 x g in-r0 set)
+
+        pub above : low < high
+        above = omega (arith, apart k left, high-at)
+
+        pub degree-some : Answers degree (pos 0) (high - low)
+        unfolding byStrings
+        degree-some = given degree (pos 0) (high - low) (ap₂ _-_ high-is low-is)
+
+        pub child-some : (y : ℕ) (z : ℤ) → y ≡ within low high (moved low z) → Answers child z y
+        unfolding byStrings
+        child-some y z f = given child z y (f ∙ ap₂ (λ a b. within a b (moved a z)) low-is high-is ∙ sym (child-within r1 r0 x g in-r0 z))
 
   -- ---- siblings
 
@@ -242,50 +258,56 @@ module _ (bytes : List ℕ) (i : Image) (found : checked bytes ≡ Sound i) (x :
   siblings-there =
       omega (arith, strings bytes i found .ended0 .count, more1 bytes i found x g h)
 
-  module _ (k low : ℕ) (left : k ≡ onesLeft r1 x) (from : low ≡ position r1 k) where
-    pub rank-above : low < x
-    rank-above = omega (arith, ap (position r1) left, left-before r1 x g)
+  -- the last node before the siblings of x, and the last of them
+  abbrev start : ℕ
+  start = position r1 (onesLeft r1 x)
 
-    from-is : low ≡ before r1 r0 (parentOf r1 r0 x)
-    from-is = from ∙ ap (position r1) left ∙ sym (siblings-low r1 r0 x siblings-there)
+  abbrev end : ℕ
+  end = position r1 (onesLeft r1 x + 1)
+
+  start-is : start ≡ before r1 r0 (parentOf r1 r0 x)
+  start-is = sym (siblings-low r1 r0 x siblings-there)
+
+  module _ (low : ℕ) (from : low ≡ start) where
+    pub rank-above : low < x
+    rank-above = omega (arith, left-before r1 x g)
 
     pub rank-given : Answers rank (pos 0) (x - low)
     unfolding byStrings
-    rank-given = given rank (pos 0) (x - low) (ap (λ n. x - n) from-is)
+    rank-given = given rank (pos 0) (x - low) (ap (λ n. x - n) (from ∙ start-is))
 
-    module _ (y : ℕ) (z : ℤ) (place : y ≡ moved x z) where
-      abbrev high : ℕ
-      high = position r1 (k + 1)
+  module _ (y : ℕ) (z : ℤ) (place : y ≡ moved x z) where
+    sibling-given : (v : ℕ) → v ≡ within start end y → Answers sibling z v
+    unfolding byStrings
+    sibling-given v e =
+        given sibling z v (
+        e ∙ ap (within start end) place
+        ∙ ap₂ (λ a b. within a b (moved x z)) start-is (sym (siblings-high r1 r0 x siblings-there))
+        ∙ sym (sibling-within r1 r0 x siblings-there z)
+        )
 
-      sibling-given : (v : ℕ) → v ≡ within low high y → Answers sibling z v
-      unfolding byStrings
-      sibling-given v e =
-          given sibling z v (
-          e ∙ ap (within low high) place
-          ∙ ap₂ (λ a b. within a b (moved x z)) from-is (ap (λ n. position r1 (n + 1)) left ∙ sym (siblings-high r1 r0 x siblings-there))
-          ∙ sym (sibling-within r1 r0 x siblings-there z)
-          )
+    -- x is among its siblings
+    upto : x ≤ end
+    upto =
+        omega (
+          arith,
+          right-from r1 x (omega (arith, strings bytes i found .ended1 .count, more1 bytes i found x g h)),
+          ap (position r1) (let e : suc (onesLeft r1 x) ≡ onesLeft r1 x + 1 = omega arith in e),
+        )
 
-      -- x is among its siblings
-      upto : x ≤ high
-      upto =
-          omega (
-            arith,
-            right-from r1 x (omega (arith, strings bytes i found .ended1 .count, more1 bytes i found x g h)),
-            ap (position r1) (let e : suc (onesLeft r1 x) ≡ k + 1 = omega arith in e),
-          )
-
+    module _ (low : ℕ) (from : low ≡ start) where
       pub left-none : y ≤ low → Answers sibling z 0
-      left-none e = sibling-given 0 (sym (outside-low low high y e))
+      left-none e = sibling-given 0 (sym (outside-low start end y (omega arith)))
 
       pub left-some : low < y → y < x → Answers sibling z y
-      left-some e f = sibling-given y (sym (inside low high y e (omega (arith, upto))))
+      left-some e f = sibling-given y (sym (inside start end y (omega arith) (omega (arith, upto))))
 
+    module _ (high : ℕ) (to : high ≡ end) where
       pub right-none : high < y → Answers sibling z 0
-      right-none e = sibling-given 0 (sym (outside-high low high y e))
+      right-none e = sibling-given 0 (sym (outside-high start end y (omega arith)))
 
       pub right-some : x ≤ y → y ≤ high → Answers sibling z y
-      right-some e f = sibling-given y (sym (inside low high y (omega (arith, rank-above)) f))
+      right-some e f = sibling-given y (sym (inside start end y (omega (arith, left-before r1 x g)) (omega arith)))
 
 -- ---- the argument
 

@@ -1,3 +1,5 @@
 pub mod Counting
 pub mod Own
 pub mod Each
+pub mod Words
+pub mod Near

@@ -87,8 +87,11 @@ module _ (bytes : List ℕ) (i : Image) (found : checked bytes ≡ Sound i) wher
   within-length : (first n k : ℕ) → position (stringIn bytes first 0 n) k ≤ n
   within-length first n k = place-le (stringIn bytes first) (λ a b p. stringIn-cut bytes first a b p) (length-stringIn bytes first) 0 n k
 
+  pub placed1 : (k : ℕ) → position r1 k ≤ i .nodes
+  placed1 k = omega (arith, strings bytes i found .length1, within-length 1 (nodesOf bytes) k, length-stringIn bytes 1 0 (nodesOf bytes))
+
   pub small1 : (k : ℕ) → position r1 k ≤ 65535
-  small1 k = let s = strings bytes i found in omega (arith, s .most, s .length1, within-length 1 (nodesOf bytes) k, length-stringIn bytes 1 0 (nodesOf bytes))
+  small1 k = omega (arith, strings bytes i found .most, placed1 k)
 
   pub small0 : (k : ℕ) → position r0 k ≤ 65536
   small0 k =

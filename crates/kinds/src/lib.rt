@@ -1,22 +1,22 @@
 // The ten kinds of questions, answered from an image that the check found sound.
 ghost use mathlib.Core.Path.{_≡_};
-ghost use Prim.Native.Nat.{_+_, _≤_};
+ghost use Prim.Native.Nat.{_+_, _*_, _≤_, _<_};
 ghost use lib.IntN.{pos};
-ghost use Rattle.meaning.specs.Bytes.{value};
+ghost use Rattle.meaning.specs.Bytes.{bitsFrom, number, value};
 ghost use Rattle.meaning.specs.Image.{parentsIn};
 ghost use Rattle.meaning.specs.Questions.{answer, answerKind, kindOf, parent, firstChild, lastChild, nextSibling, previousSibling, degree, rank, child, leaf, sibling};
-ghost use Rattle.theory.specs.Rank.{position};
+ghost use Rattle.theory.specs.Rank.{onesLeft, position};
 ghost use Rattle.theory.specs.Stages.{readR1, readR0};
 ghost use Rattle.theory.specs.ByStrings.{bitOf, within, before};
 ghost use Rattle.image.specs.declared.Checked.the-variants.{Sound};
 ghost use Rattle.image.specs.Checked.{checked};
 ghost use Rattle.kinds.specs.Values.{valueOf, moved};
+use counts::string_bit;
 use image::Image;
 use ranks::rank_r0;
 use ranks::rank_r1;
 use ranks::select_r0;
 use ranks::select_r1;
-use stages::string_bit;
 
 // The argument of a question: its size, or minus its size.
 pub struct Signed {
@@ -133,20 +133,27 @@ pub fn last_child(b: &[u8], image: Image, x: usize) -> u32
     ones_before_zero(b, image, x + 1) as u32
 }
 
-// How many children node x has. With a child, x ends a run of zeros, so that one more run has begun left of x + 1 and one rank does for both zeros.
-pub fn degree_of(b: &[u8], image: Image, x: usize) -> u32
-    requires { ⌜ checked (now b) ≡ Sound image ⌝ }
-    requires { ⌜ 1 ≤ x ⌝ }
-    requires { ⌜ x ≤ image .nodes ⌝ }
-    ensures { λ r. ⌜ r ≡ answer (parentsIn (now (b .entry))) degree x (pos 0) ⌝ }
+// A byte as a word, in which it can be multiplied up.
+fn wide(x: u8) -> u64
+    ensures { λ r. ⌜ (r ≡ x) × (r < 256) ⌝ }
 {
-    if bit_r0(b, image, x) == 0 {
-        return 0;
-    }
-    let k = rank_r0(b, image, x);
-    let low = select_r1(b, image, k + 1);
-    let high = select_r1(b, image, k + 2);
-    (high - low) as u32
+    x as u64
+}
+
+// The 32 bits from byte `at` on as a number, most significant first.
+fn half_word(b: &[u8], at: usize) -> u64
+    requires { do ⌜ at + 4 ≤ (← ⟦b.len()⟧) ⌝ }
+    ensures { λ r. ⌜ r ≡ number 32 (bitsFrom (now (b .entry)) (8 * at) 32) ⌝ }
+{
+    wide(b[at]) * 16777216 + wide(b[at + 1]) * 65536 + wide(b[at + 2]) * 256 + wide(b[at + 3])
+}
+
+// The 64 bits from byte `at` on as a number, most significant first: sums, which become one load.
+fn whole_word(b: &[u8], at: usize) -> u64
+    requires { do ⌜ at + 8 ≤ (← ⟦b.len()⟧) ⌝ }
+    ensures { λ r. ⌜ r ≡ number 64 (bitsFrom (now (b .entry)) (8 * at) 64) ⌝ }
+{
+    half_word(b, at) * 4294967296 + half_word(b, at + 4)
 }
 
 // The position of one number k of R1, 0 for number 0: the last node of that run of siblings.
@@ -161,6 +168,83 @@ fn run_end(b: &[u8], image: Image, k: usize) -> usize
     select_r1(b, image, k)
 }
 
+// The last node before the siblings of node x, 0 if there is none, by counting.
+fn far_before(b: &[u8], image: Image, x: usize) -> usize
+    requires { ⌜ checked (now b) ≡ Sound image ⌝ }
+    requires { ⌜ 1 ≤ x ⌝ }
+    requires { ⌜ x ≤ image .nodes ⌝ }
+    ensures { λ r. ⌜ r ≡ position (readR1 (now (b .entry))) (onesLeft (readR1 (now (b .entry))) x) ⌝ }
+{
+    run_end(b, image, rank_r1(b, image, x))
+}
+
+// The same: the last one of R1 left of x. It is seldom far, so that the bits of the eight bytes up to x's are looked at first.
+fn run_before(b: &[u8], image: Image, x: usize) -> usize
+    requires { ⌜ checked (now b) ≡ Sound image ⌝ }
+    requires { ⌜ 1 ≤ x ⌝ }
+    requires { ⌜ x ≤ image .nodes ⌝ }
+    ensures { λ r. ⌜ r ≡ position (readR1 (now (b .entry))) (onesLeft (readR1 (now (b .entry))) x) ⌝ }
+{
+    let i = x - 1;
+    let from = i % 4000;
+    // its block has fewer bytes before x's than a word needs
+    if from < 56 {
+        return far_before(b, image, x);
+    }
+    let near = whole_word(b, 512 * (1 + i / 4000) + 4 + (from / 8 - 7)) >> (8 - from % 8);
+    if near == 0 {
+        return far_before(b, image, x);
+    }
+    i - u64::trailing_zeros(near) as usize
+}
+
+// The last of the siblings of node x, by counting.
+fn far_last(b: &[u8], image: Image, x: usize) -> usize
+    requires { ⌜ checked (now b) ≡ Sound image ⌝ }
+    requires { ⌜ 1 ≤ x ⌝ }
+    requires { ⌜ x ≤ image .nodes ⌝ }
+    ensures { λ r. ⌜ r ≡ position (readR1 (now (b .entry))) (onesLeft (readR1 (now (b .entry))) x + 1) ⌝ }
+{
+    select_r1(b, image, rank_r1(b, image, x) + 1)
+}
+
+// The same: the first one of R1 that is not left of x, looked for in the eight bytes from x's on first. There is one, since R1 ends with a one.
+fn run_last(b: &[u8], image: Image, x: usize) -> usize
+    requires { ⌜ checked (now b) ≡ Sound image ⌝ }
+    requires { ⌜ 1 ≤ x ⌝ }
+    requires { ⌜ x ≤ image .nodes ⌝ }
+    ensures { λ r. ⌜ r ≡ position (readR1 (now (b .entry))) (onesLeft (readR1 (now (b .entry))) x + 1) ⌝ }
+{
+    let i = x - 1;
+    let from = i % 4000;
+    // its block has fewer bytes from x's on than a word needs
+    if 3943 < from {
+        return far_last(b, image, x);
+    }
+    let near = whole_word(b, 512 * (1 + i / 4000) + 4 + from / 8)
+        & (18446744073709551615 >> (from % 8));
+    if near == 0 {
+        return far_last(b, image, x);
+    }
+    x - from % 8 + u64::leading_zeros(near) as usize
+}
+
+// How many children node x has. With a child, x ends a run of zeros, so that one more run has begun left of x + 1 and one rank does for both zeros.
+pub fn degree_of(b: &[u8], image: Image, x: usize) -> u32
+    requires { ⌜ checked (now b) ≡ Sound image ⌝ }
+    requires { ⌜ 1 ≤ x ⌝ }
+    requires { ⌜ x ≤ image .nodes ⌝ }
+    ensures { λ r. ⌜ r ≡ answer (parentsIn (now (b .entry))) degree x (pos 0) ⌝ }
+{
+    if bit_r0(b, image, x) == 0 {
+        return 0;
+    }
+    let k = rank_r0(b, image, x);
+    let low = select_r1(b, image, k + 1);
+    let high = run_last(b, image, low + 1);
+    (high - low) as u32
+}
+
 // The place of node x among its siblings, from 1.
 pub fn child_rank(b: &[u8], image: Image, x: usize) -> u32
     requires { ⌜ checked (now b) ≡ Sound image ⌝ }
@@ -168,8 +252,7 @@ pub fn child_rank(b: &[u8], image: Image, x: usize) -> u32
     requires { ⌜ x ≤ image .nodes ⌝ }
     ensures { λ r. ⌜ r ≡ answer (parentsIn (now (b .entry))) rank x (pos 0) ⌝ }
 {
-    let k = rank_r1(b, image, x);
-    (x - run_end(b, image, k)) as u32
+    (x - run_before(b, image, x)) as u32
 }
 
 // y, if it is above low and at most high, and else 0.
@@ -213,7 +296,7 @@ pub fn child_number(b: &[u8], image: Image, x: usize, z: Signed) -> u32
     }
     let k = rank_r0(b, image, x);
     let low = select_r1(b, image, k + 1);
-    let high = select_r1(b, image, k + 2);
+    let high = run_last(b, image, low + 1);
     in_range(low, high, shifted(low, z)) as u32
 }
 
@@ -225,15 +308,14 @@ pub fn sibling_at(b: &[u8], image: Image, x: usize, z: Signed) -> u32
     requires { ⌜ x ≤ image .nodes ⌝ }
     ensures { λ r. ⌜ r ≡ answer (parentsIn (now (b .entry))) sibling x (valueOf z) ⌝ }
 {
-    let k = rank_r1(b, image, x);
     let y = shifted(x, z);
     if y < x {
-        if y <= run_end(b, image, k) {
+        if y <= run_before(b, image, x) {
             return 0;
         }
         return y as u32;
     }
-    if select_r1(b, image, k + 1) < y {
+    if run_last(b, image, x) < y {
         return 0;
     }
     y as u32

@@ -1,22 +1,22 @@
 -- The listing as it is written: a list whose front is written and whose rest is as it was, and the children that are still to come.
 use mathlib.Core.Path.{_≡_, refl, sym, ap, ap₂, _∙_}
 use mathlib.Core.List.{List, [], _∷_, _++_, append-assoc, append-nil}
-use Prim.Native.Nat.{ℕ, zero, suc, _+_, _-_, _≤_, _<_}
+use Prim.Native.Nat.{ℕ, suc, _+_, _-_, _≤_, _<_}
 use native.Mathlib.Numerals.{add-one}
 use native.Mathlib.Omega.{arith}
-use lib.IntN.{pos}
 use lib.ListN.{length, set, take, drop, length-append, length-drop, drop-of-length-le}
-use lib.Seq.{take-all, take-at, drop-at, drop-drop, drop-set-lt}
+use lib.Seq.{take-all, take-at, drop-at, drop-drop}
 use Rattle.meaning.specs.Answers.{written}
 use Rattle.meaning.specs.Image.{parentsIn}
-use Rattle.meaning.specs.Questions.{leaf, isNone, childrenOf, answer}
 use Rattle.meaning.specs.Listing.{forEach, listing}
 use Rattle.theory.specs.Rank.{counting}
 use Rattle.image.specs.declared.Image.{Image}
 use Rattle.image.specs.declared.Checked.the-variants.{Sound}
 use Rattle.image.specs.Checked.{checked}
+use Rattle.listing.specs.Levels.{low}
+use Rattle.listing.specs.Cursors.{under}
 use Rattle.listing.proofs.Levels.{listing-node}
-use Rattle.listing.proofs.Numbers.{low, low-mono, low-kids}
+use Rattle.listing.proofs.Numbers.{low-mono, low-kids}
 
 -- ---- listings, one after the other
 
@@ -34,41 +34,39 @@ listings-step ps f d a z h =
     ap (λ m. forEach (λ c. listing f ps c d) (counting (suc a) m)) (let e : z - a ≡ suc (z - (a + 1)) = omega arith in e)
     ∙ ap (λ k. listing f ps k d ++ forEach (λ c. listing f ps c d) (counting (suc k) (z - (a + 1)))) (sym (add-one a))
 
-pub listing-none : (ps : List ℕ) (f x d : ℕ) → f ≡ 0 → listing f ps x d ≡ []
-unfolding listing
-listing-none ps f x d e = ap (λ k. listing k ps x d) e
+-- a node, and then its children, where f of the 64 levels are left
+module _ (bytes : List ℕ) (i : Image) (found : checked bytes ≡ Sound i) (f x : ℕ) (some : 1 ≤ f) (most : f ≤ 64) where
+  pub listing-step : listing f (parentsIn bytes) x (64 - f) ≡ x ∷ (64 - f) ∷ listings (parentsIn bytes) (f - 1) (64 - (f - 1)) (low bytes x) (low bytes (x + 1))
+  unfolding listings
+  listing-step =
+      let ps = parentsIn bytes in
+      ap (λ k. listing k ps x (64 - f)) (let q : f ≡ suc (f - 1) = omega arith in q)
+      ∙ listing-node ps (low bytes) (low-mono bytes i found) (low-kids bytes i found) (f - 1) x (64 - f)
+      ∙ ap₂ (λ k z. x ∷ (64 - f) ∷ forEach (λ c. listing (f - 1) ps c k) (counting (suc (low bytes x)) (z - low bytes x)))
+      (let q : suc (64 - f) ≡ 64 - (f - 1) = omega arith in q) (ap (low bytes) (sym (add-one x)))
 
--- a leaf is listed alone
-pub listing-leaf : (ps : List ℕ) (f x d r : ℕ) → 0 < f → r ≡ answer ps leaf x (pos 0) → r ≡ 1 → listing f ps x d ≡ x ∷ d ∷ []
-unfolding listing answer
-listing-leaf ps zero x d r h e g = absurd (omega arith)
-listing-leaf ps (suc f) x d r h e g = ap (λ cs. x ∷ d ∷ forEach (λ c. listing f ps c (suc d)) cs) (none (childrenOf ps x) (sym e ∙ g))
-  where
-    none : (cs : List ℕ) → isNone (length cs) ≡ 1 → cs ≡ []
-    none [] q = refl
-    none (c ∷ cs) q = absurd (omega arith)
+  pub under-step : under bytes f x ≡ listings (parentsIn bytes) (f - 1) (64 - (f - 1)) (low bytes x) (low bytes (x + 1))
+  under-step = ap (drop 2) listing-step
 
--- a node, and then its children
-pub listing-step : (bytes : List ℕ) (i : Image) → checked bytes ≡ Sound i → (f x d a z : ℕ) → 0 < f → a ≡ low bytes x → z ≡ low bytes (x + 1)
-    → listing f (parentsIn bytes) x d ≡ x ∷ d ∷ listings (parentsIn bytes) (f - 1) (d + 1) a z
-unfolding listings
-listing-step bytes i found f x d a z h e g =
-    let ps = parentsIn bytes in
-    ap (λ k. listing k ps x d) (let q : f ≡ suc (f - 1) = omega arith in q)
-    ∙ listing-node ps (low bytes) (low-mono bytes i found) (low-kids bytes i found) (f - 1) x d
-    ∙ ap₂ (λ k m. x ∷ d ∷ forEach (λ c. listing (f - 1) ps c k) m) (sym (add-one d))
-    (ap₂ (λ p q. counting (suc p) (q - p)) (sym e) (sym (g ∙ ap (low bytes) (add-one x))))
+  -- its own pair, and what is below it
+  pub pair-first : listing f (parentsIn bytes) x (64 - f) ≡ x ∷ (64 - f) ∷ under bytes f x
+  pair-first = listing-step ∙ ap (λ r. x ∷ (64 - f) ∷ r) (sym under-step)
+
+  pub under-leaf : low bytes (x + 1) ≡ low bytes x → under bytes f x ≡ []
+  under-leaf e = under-step ∙ listings-none (parentsIn bytes) (f - 1) (64 - (f - 1)) (low bytes x) (low bytes (x + 1)) (omega arith)
 
 -- ---- a list whose front is written
 
--- the two stores
-pub two : (o : List ℕ) (a b : ℕ) → 2 ≤ length o → set (set o 0 a) 1 b ≡ written (a ∷ b ∷ []) (set (set o 0 a) 1 b)
-two [] a b h = absurd (omega arith)
-two (x ∷ []) a b h = absurd (omega arith)
-two (x ∷ y ∷ o) a b h = refl
-
-past-two : (o : List ℕ) (a b n : ℕ) → 2 ≤ n → drop n (set (set o 0 a) 1 b) ≡ drop n o
-past-two o a b n h = drop-set-lt n (set o 0 a) 1 b (omega arith) ∙ drop-set-lt n o 0 a (omega arith)
+-- a pair more
+pub pair-put : (w o : List ℕ) (at x d : ℕ) → at ≡ length w → length w + 2 ≤ length o → set (set (written w o) at x) (at + 1) d ≡ written (w ++ x ∷ d ∷ []) o
+pair-put w o at x d e h = ap (λ n. set (set (written w o) at x) n d) (add-one at) ∙ ap (λ n. set (set (written w o) n x) (suc n) d) e ∙ go w o h
+  where
+    go : (w o : List ℕ) → length w + 2 ≤ length o → set (set (written w o) (length w) x) (suc (length w)) d ≡ written (w ++ x ∷ d ∷ []) o
+    go [] [] h = absurd (omega arith)
+    go [] (a ∷ []) h = absurd (omega arith)
+    go [] (a ∷ b ∷ o) h = refl
+    go (v ∷ w) [] h = absurd (omega arith)
+    go (v ∷ w) (a ∷ o) h = ap (λ r. v ∷ r) (go w o (omega arith))
 
 pub front-length : (w o : List ℕ) → length w ≤ length o → length (written w o) ≡ length o
 front-length w o h = simp (length-append, length-drop) (omega arith)
@@ -97,6 +95,3 @@ module _ (w whole rest : List ℕ) (is : w ++ rest ≡ whole) where
   -- nothing is left
   pub ended : rest ≡ [] → w ≡ whole
   ended e = sym (append-nil w) ∙ ap (λ (l : List ℕ). w ++ l) (sym e) ∙ is
-
-pub all-of : (w whole out o : List ℕ) (a b : ℕ) → w ≡ whole → 2 ≤ length w → out ≡ written w (set (set o 0 a) 1 b) → out ≡ written whole o
-all-of w whole out o a b e h q = q ∙ ap (λ (l : List ℕ). w ++ l) (past-two o a b (length w) h) ∙ ap (λ (l : List ℕ). written l o) e

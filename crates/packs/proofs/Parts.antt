@@ -1,14 +1,14 @@
 -- Tree after tree: what the loops over the trees of a pack keep.
 use mathlib.Core.Path.{_≡_, refl, sym, ap, ap₂, _∙_}
 use mathlib.Core.Bool.{cond}
-use mathlib.Core.List.{List, [], _∷_, _++_, append-nil}
+use mathlib.Core.List.{List, [], _∷_, _++_}
 use mathlib.Core.Option.{some}
 use Prim.Native.Nat.{ℕ, suc, _+_, _-_, _*_, _≤_, _<_}
 use native.Mathlib.Numerals.{add-one}
 use native.Mathlib.Omega.{arith}
 use borrow.Author.Tests.{eq-eqb, ne-eqb}
-use lib.ListN.{length, take, drop, set, take-append-drop, length-set}
-use lib.Seq.{take-suc-set, drop-set-lt, drop-drop, append-snoc}
+use lib.ListN.{length, getD, take, drop, set}
+use lib.Seq.{sets, sets-eq, length-sets, length-take-le, paste, paste-suc, take-at}
 use Rattle.meaning.specs.Strings.{Bit}
 use Rattle.meaning.specs.Bytes.{bitsFrom}
 use Rattle.meaning.specs.Scan.{many, closed, refusal, place}
@@ -18,7 +18,7 @@ use Rattle.theory.proofs.Packing.{bits-length, rest-nil, rest-drop}
 use Rattle.scan.specs.Ends.{over, refused, treeEnd, endOf}
 use Rattle.scan.specs.declared.TreeEnd.{TreeEnd}
 use Rattle.scan.specs.declared.TreeEnd.the-variants.{Over, Refused}
-use Rattle.scan.proofs.Ends.{over-within, refused-within, many-refused, many-over, sizes-over}
+use Rattle.scan.proofs.Ends.{over-within, refused-within, many-refused, many-over, sizes-over, sizes-refused}
 use Rattle.packs.specs.Found as F
 use Rattle.packs.specs.Found.{found}
 
@@ -92,9 +92,6 @@ module _ (b : List ℕ) (n : ℕ) where
     pub refused-at : {x : ℕ} → treeEnd (after p) p ≡ refused x → (1 ≤ x) × (x ≤ n + 1)
     refused-at e = let w = refused-within (after p) p e in (omega (arith, w .0), omega (arith, w .1, after-length p))
 
-    pub not-refused : {x : ℕ} → treeEnd (after p) p ≡ refused x → place many (bitsFrom b 0 n) ≡ 0 → ⊥
-    not-refused e f = omega (arith, refused-place e, refused-at e .0)
-
     pub scanned-refused : {x : ℕ} → treeEnd (after p) p ≡ refused x → F.refused x ≡ found (bitsFrom b 0 n)
     unfolding found
     scanned-refused {x} e =
@@ -111,87 +108,87 @@ module _ (b : List ℕ) (n : ℕ) where
       let g : length (sizes bs) ≡ k = s .sizes ∙ ap (λ x. k + length (sizesFrom x (some (closed k)))) r ∙ omega arith in
       ap F.trees (sym g) ∙ sym (ap (λ t. cond t (F.trees (length (sizes bs))) (F.refused (place many bs))) (eq-eqb (place many bs) 0 f))
 
--- ---- writing
-
--- a store at k: what is written grows by one, and what is not yet written stays
-stored : (out rest : List ℕ) (k z : ℕ) → k < length out → take (k + 1) (set out k z) ++ rest ≡ take k out ++ z ∷ rest
-stored out rest k z h =
-    ap (λ r. r ++ rest) (ap (λ j. take j (set out k z)) (add-one k) ∙ take-suc-set out k z h) ∙ append-snoc (take k out) z rest
-
-unstored : (out old : List ℕ) (k z : ℕ) → drop k out ≡ drop k old → drop (k + 1) (set out k z) ≡ drop (k + 1) old
-unstored out old k z e = drop-set-lt (k + 1) out k z (omega arith) ∙ sym (drop-drop 1 k out) ∙ ap (drop 1) e ∙ drop-drop 1 k old
-
-all-stored : (out old new : List ℕ) (k : ℕ) → take k out ++ [] ≡ new → drop k out ≡ drop k old → length new ≡ k → out ≡ written new old
-all-stored out old new k e f l =
-    sym (take-append-drop k out) ∙ ap₂ _++_ (sym (append-nil (take k out)) ∙ e) (f ∙ ap (λ j. drop j old) (sym l))
+-- ---- noting
 
 pub starts-length : (ns : List ℕ) (p : ℕ) → length (startsFrom ns p) ≡ length ns
 unfolding startsFrom
 starts-length [] p = refl
 starts-length (s ∷ ns) p = ap suc (starts-length ns (p + (2 * s + 1)))
 
-module _ (b : List ℕ) (n : ℕ) where
-  -- after k trees, which end at bit p: what is written and what is to come are all the starts and sizes
-  pub record Noted (first size : List ℕ) (p k : ℕ) (outFirst outSize : List ℕ) : Type 0 where
+module _ (b : List ℕ) (n : ℕ) (first size : List ℕ) where
+  -- after k trees, which end at bit p: with what is to come, all the starts and sizes are noted
+  pub record Noted (p k : ℕ) (outFirst outSize : List ℕ) : Type 0 where
     pub scanned : Scanned b n p k
-    pub firstRoom : length outFirst ≡ length first
-    pub sizeRoom : length outSize ≡ length size
-    pub firsts : take k outFirst ++ startsFrom (sizesFrom (after b n p) (some (closed k))) p ≡ starts (bitsFrom b 0 n)
-    pub sizes : take k outSize ++ sizesFrom (after b n p) (some (closed k)) ≡ sizes (bitsFrom b 0 n)
-    pub firstRest : drop k outFirst ≡ drop k first
-    pub sizeRest : drop k outSize ≡ drop k size
+    pub firsts : sets outFirst k (startsFrom (sizesFrom (after b n p) (some (closed k))) p) ≡ sets first 0 (starts (bitsFrom b 0 n))
+    pub sizes : sets outSize k (sizesFrom (after b n p) (some (closed k))) ≡ sets size 0 (sizes (bitsFrom b 0 n))
 
-  module _ (first size : List ℕ) where
-    pub noted-first : Noted first size 0 0 first size
-    unfolding starts Rattle.meaning.specs.Packs.sizes
-    noted-first = record {
-      scanned = scanned-first b n;
-      firstRoom = refl;
-      sizeRoom = refl;
-      firsts = ap (λ r. startsFrom (sizesFrom r (some (closed 0))) 0) (whole b n);
-      sizes = ap (λ r. sizesFrom r (some (closed 0))) (whole b n);
-      firstRest = refl;
-      sizeRest = refl;
-    }
+  pub noted-first : Noted 0 0 first size
+  unfolding starts Rattle.meaning.specs.Packs.sizes
+  noted-first = record {
+    scanned = scanned-first b n;
+    firsts = ap (λ r. sets first 0 (startsFrom (sizesFrom r (some (closed 0))) 0)) (whole b n);
+    sizes = ap (λ r. sets size 0 (sizesFrom r (some (closed 0)))) (whole b n);
+  }
 
-    module _ (p k : ℕ) (outFirst outSize : List ℕ) (h : Noted first size p k outFirst outSize) (l : p < n) {q z : ℕ} (e : treeEnd (after b n p) p ≡ over q z) where
-      here : sizesFrom (after b n p) (some (closed k)) ≡ z ∷ sizesFrom (after b n q) (some (closed (suc k)))
-      here =
-          let w = next-at b n p k (h .scanned) l e in
-          sizes-over k (after b n p) p e ∙ ap (λ r. z ∷ sizesFrom r (some (closed (suc k)))) (next-after b n p q (omega (arith, w .0)) (w .1))
+  module _ (p k : ℕ) (outFirst outSize : List ℕ) (h : Noted p k outFirst outSize) where
+    pub noted-lengths : (length outFirst ≡ length first) × (length outSize ≡ length size)
+    noted-lengths = (
+      sym (length-sets outFirst k (startsFrom (sizesFrom (after b n p) (some (closed k))) p)) ∙ ap length (h .firsts) ∙ length-sets first 0 (starts (bitsFrom b 0 n)),
+      sym (length-sets outSize k (sizesFrom (after b n p) (some (closed k)))) ∙ ap length (h .sizes) ∙ length-sets size 0 (Rattle.meaning.specs.Packs.sizes (bitsFrom b 0 n)),
+    )
 
-      -- there is a place for this tree
-      pub noted-room : k < length (Rattle.meaning.specs.Packs.sizes (bitsFrom b 0 n))
-      noted-room = omega (arith, h .scanned .sizes, ap length here)
+    -- where no tree is to come
+    none-left : sizesFrom (after b n p) (some (closed k)) ≡ [] → (outFirst ≡ sets first 0 (starts (bitsFrom b 0 n))) × (outSize ≡ sets size 0 (Rattle.meaning.specs.Packs.sizes (bitsFrom b 0 n)))
+    unfolding startsFrom
+    none-left e = (
+      ap (λ r. sets outFirst k (startsFrom r p)) (sym e) ∙ h .firsts,
+      ap (λ r. sets outSize k r) (sym e) ∙ h .sizes,
+    )
 
-      pub noted-next : k < length first → k < length size → Noted first size q (k + 1) (set outFirst k (p + 1)) (set outSize k z)
-      unfolding startsFrom
-      noted-next g j =
-          let w = next-at b n p k (h .scanned) l e in
-          let ns = sizesFrom (after b n q) (some (closed (suc k))) in
-          record {
-            scanned = scanned-next b n p k (h .scanned) l e;
-            firstRoom = length-set outFirst k (p + 1) ∙ h .firstRoom;
-            sizeRoom = length-set outSize k z ∙ h .sizeRoom;
-            firsts = ap (λ i. take (k + 1) (set outFirst k (p + 1)) ++ startsFrom (sizesFrom (after b n q) (some (closed i))) q) (add-one k)
-                ∙ stored outFirst (startsFrom ns q) k (p + 1) (omega (arith, h .firstRoom))
-                ∙ ap₂ (λ i r. take k outFirst ++ i ∷ startsFrom ns r) (add-one p) (w .3)
-                ∙ ap (λ r. take k outFirst ++ startsFrom r p) (sym here)
-                ∙ h .firsts;
-            sizes = ap (λ i. take (k + 1) (set outSize k z) ++ sizesFrom (after b n q) (some (closed i))) (add-one k)
-                ∙ stored outSize ns k z (omega (arith, h .sizeRoom))
-                ∙ ap (λ r. take k outSize ++ r) (sym here)
-                ∙ h .sizes;
-            firstRest = unstored outFirst first k (p + 1) (h .firstRest);
-            sizeRest = unstored outSize size k z (h .sizeRest);
-          }
+    pub noted-last : n ≤ p → (outFirst ≡ sets first 0 (starts (bitsFrom b 0 n))) × (outSize ≡ sets size 0 (Rattle.meaning.specs.Packs.sizes (bitsFrom b 0 n)))
+    unfolding after sizesFrom
+    noted-last l = none-left (ap (λ r. sizesFrom r (some (closed k))) (rest-nil b p n l))
 
-    pub noted-last : (p k : ℕ) (outFirst outSize : List ℕ) → Noted first size p k outFirst outSize → n ≤ p
-        → (outFirst ≡ written (starts (bitsFrom b 0 n)) first) × (outSize ≡ written (Rattle.meaning.specs.Packs.sizes (bitsFrom b 0 n)) size)
-    unfolding after sizesFrom startsFrom starts
-    noted-last p k outFirst outSize h l =
-        let r : after b n p ≡ [] = rest-nil b p n l in
-        let g : length (Rattle.meaning.specs.Packs.sizes (bitsFrom b 0 n)) ≡ k = h .scanned .sizes ∙ ap (λ x. k + length (sizesFrom x (some (closed k)))) r ∙ omega arith in (
-          all-stored outFirst first _ k (ap (λ x. take k outFirst ++ startsFrom (sizesFrom x (some (closed k))) p) (sym r) ∙ h .firsts) (h .firstRest) (starts-length (Rattle.meaning.specs.Packs.sizes (bitsFrom b 0 n)) 0 ∙ g),
-          all-stored outSize size _ k (ap (λ x. take k outSize ++ sizesFrom x (some (closed k))) (sym r) ∙ h .sizes) (h .sizeRest) g,
-        )
+    pub noted-refused : {x : ℕ} → treeEnd (after b n p) p ≡ refused x
+        → (outFirst ≡ sets first 0 (starts (bitsFrom b 0 n))) × (outSize ≡ sets size 0 (Rattle.meaning.specs.Packs.sizes (bitsFrom b 0 n)))
+    noted-refused e = none-left (sizes-refused k (after b n p) p e)
+
+    pub noted-next : p < n → {q z : ℕ} → treeEnd (after b n p) p ≡ over q z
+        → {f s : List ℕ} → f ≡ set outFirst k (p + 1) → s ≡ set outSize k z → Noted q (k + 1) f s
+    unfolding startsFrom
+    noted-next l {q} {z} e {f} {s} ef es =
+        let w = next-at b n p k (h .scanned) l e in
+        let ns = sizesFrom (after b n q) (some (closed (suc k))) in
+        let here : sizesFrom (after b n p) (some (closed k)) ≡ z ∷ ns =
+        sizes-over k (after b n p) p e ∙ ap (λ r. z ∷ sizesFrom r (some (closed (suc k)))) (next-after b n p q (omega (arith, w .0)) (w .1)) in
+        record {
+          scanned = scanned-next b n p k (h .scanned) l e;
+          firsts = ap (λ r. sets r (k + 1) (startsFrom (sizesFrom (after b n q) (some (closed (k + 1)))) q)) ef
+              ∙ ap₂ (λ i j. sets (set outFirst k i) j (startsFrom (sizesFrom (after b n q) (some (closed j))) q)) (add-one p) (add-one k)
+              ∙ ap (λ r. sets (set outFirst k (suc p)) (suc k) (startsFrom ns r)) (w .3)
+              ∙ ap (λ r. sets outFirst k (startsFrom r p)) (sym here)
+              ∙ h .firsts;
+          sizes = ap₂ (λ r j. sets r j (sizesFrom (after b n q) (some (closed j)))) es (add-one k)
+              ∙ ap (λ r. sets outSize k r) (sym here)
+              ∙ h .sizes;
+        }
+
+-- ---- handing over
+
+pub handed-next : (old list : List ℕ) (i : ℕ) {out : List ℕ} → out ≡ paste old 0 list i → i < length old → i < length list
+    → set out i (getD list i 0) ≡ paste old 0 list (i + 1)
+handed-next old list i {out} e h g =
+    ap₂ (λ r j. set r j (getD list i 0)) e (let z : i ≡ 0 + i = omega arith in z)
+    ∙ paste-suc old 0 list i 0 (omega arith) g
+    ∙ ap (paste old 0 list) (sym (add-one i))
+
+pub handed-last : (old list : List ℕ) (i k : ℕ) {out : List ℕ} → out ≡ paste old 0 list i → i ≡ k → k ≤ length list → out ≡ written (take k list) old
+handed-last old list i k e f h =
+    e ∙ ap₂ (λ j l. take j list ++ drop l old) f (let z : 0 + i ≡ length (take k list) = omega (arith, length-take-le k list h) in z)
+
+-- entries that were all noted
+pub handed-all : (new list old : List ℕ) (k : ℕ) {noted out : List ℕ} → noted ≡ sets list 0 new → length new ≡ k → k ≤ length list
+    → out ≡ written (take k noted) old → out ≡ written new old
+handed-all new list old k {noted} {out} e l r f =
+    f ∙ ap (λ x. written x old)
+    (ap (take k) (e ∙ sets-eq new list 0 (omega arith)) ∙ take-at new (drop (0 + length new) list) k l)

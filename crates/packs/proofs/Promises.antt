@@ -68,7 +68,7 @@ split-gives-trees ts firsts sizesOut f room roomSizes =
     let bits = strings ts in
     let bytes = packed bits in
     let L = length bits in
-    sym (split-made bytes L (length ts) firsts sizesOut (f .short) (packed-length bits) (f .few) (packed-leftover bits)
+    sym (split-made bytes L (length ts) firsts sizesOut (record { short = f .short; exact = packed-length bits; few = f .few }) (packed-leftover bits)
     (length ts) (all-found ts (f .small) (bitsFrom bytes 0 L) (packed-read bits)) refl room roomSizes)
     ∙ ap₂ (λ a b. cameTo (counts L (length ts)) (written a firsts, written b sizesOut))
     (ap starts (packed-read bits) ∙ starts-are ts (f .small))

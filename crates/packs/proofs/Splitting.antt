@@ -6,7 +6,8 @@ use Prim.Native.Nat.{ℕ, _≤_, _<_}
 use native.Mathlib.Omega.{arith}
 use borrow.Author.Tests.{lt-ltb, le-ltb}
 use lib.Dec.{ltb, eqb}
-use lib.ListN.{length}
+use lib.ListN.{length, take}
+use lib.Seq.{sets}
 use Rattle.meaning.specs.Bytes.{bitsFrom, bytesFor, leftover}
 use Rattle.meaning.specs.Scan.{many, place}
 use Rattle.meaning.specs.Packs.{sizes, starts}
@@ -15,7 +16,7 @@ use Rattle.meaning.specs.Answers.{Outcome, refusedWith, counts, cameTo, settle,
 use Rattle.meaning.specs.Calls.{splitPack}
 use Rattle.theory.proofs.Settled.{or-first, or-second, or-neither, unequal, equal, settle-here, settle-on, settle-none}
 use Rattle.packs.specs.Found.{trees, refused, found}
-use Rattle.packs.proofs.Parts.{starts-length}
+use Rattle.packs.proofs.Parts.{starts-length, handed-all}
 use Rattle.packs.proofs.Telling.{found-trees, found-refused}
 
 module _ (bytes : List ℕ) (L k : ℕ) (firsts sizesOut : List ℕ) where
@@ -43,9 +44,18 @@ module _ (bytes : List ℕ) (L k : ℕ) (firsts sizesOut : List ℕ) where
   unfolding splitPack
   split-trees h = sym (settle-here _ _ _ _ _ (or-second (long || other) over (lt-ltb 256 k h)))
 
-  module _ (g : L ≤ 131071) (h : length bytes ≡ bytesFor L) (j : k ≤ 256) where
+  -- all sizes are right
+  pub record Sized : Type 0 where
+    pub short : L ≤ 131071
+    pub exact : length bytes ≡ bytesFor L
+    pub few : k ≤ 256
+
+  module _ (z : Sized) where
     sized : (long || other || over) ≡ false
-    sized = or-neither (long || other) over (or-neither long other (le-ltb 131071 L g) (equal (length bytes) (bytesFor L) h)) (le-ltb 256 k j)
+    sized =
+        or-neither (long || other) over
+        (or-neither long other (le-ltb 131071 L (z .short)) (equal (length bytes) (bytesFor L) (z .exact)))
+        (le-ltb 256 k (z .few))
 
     pub split-leftover : leftover bytes L ≡ true → cameTo (refusedWith 5 0) lent ≡ splitPack bytes L k firsts sizesOut
     unfolding splitPack
@@ -109,10 +119,14 @@ module _ (bytes : List ℕ) (L k : ℕ) (firsts sizesOut : List ℕ) where
               (le-ltb (length firsts) (length (starts (bitsFrom bytes 0 L))) (omega (arith, places)))
               (le-ltb (length sizesOut) (length (sizes (bitsFrom bytes 0 L))) (omega (arith, count)))) ∙ settle-none _ _ _)
 
-          pub split-done : {r : Answer} {f s : List ℕ} → r ≡ counts L n
-              → f ≡ written (starts (bitsFrom bytes 0 L)) firsts → s ≡ written (sizes (bitsFrom bytes 0 L)) sizesOut
+          -- the starts and sizes as they were noted in lists with room for all of them
+          pub split-done : (zeros : List ℕ) {r : Answer} {f s notedStarts notedSizes : List ℕ} → r ≡ counts L n → length zeros ≡ 256
+              → notedStarts ≡ sets zeros 0 (starts (bitsFrom bytes 0 L)) → notedSizes ≡ sets zeros 0 (sizes (bitsFrom bytes 0 L))
+              → f ≡ written (take k notedStarts) firsts → s ≡ written (take k notedSizes) sizesOut
               → k ≤ length firsts → k ≤ length sizesOut → cameTo r (f, s) ≡ splitPack bytes L k firsts sizesOut
-          split-done {r} {f} {s} e1 e2 e3 l m =
-              ap (λ a. cameTo a (f, s)) (e1 ∙ ap (counts L) same)
-              ∙ ap₂ (λ a b. cameTo (counts L k) (a, b)) e2 e3
+          split-done zeros {r} {f} {s} e q e1 e2 f1 f2 l m =
+              ap₂ cameTo (e ∙ ap (counts L) same)
+              (ap₂ (λ x y. (x, y))
+              (handed-all (starts (bitsFrom bytes 0 L)) zeros firsts k e1 (places ∙ same) (omega (arith, z .few)) f1)
+              (handed-all (sizes (bitsFrom bytes 0 L)) zeros sizesOut k e2 (count ∙ same) (omega (arith, z .few)) f2))
               ∙ split-made l m

@@ -1,4 +1,4 @@
--- What the scan of a pack tells of its place and its sizes.
+-- What the scan of a pack tells of its place and its sizes, and what an answer comes to.
 use mathlib.Core.Path.{_≡_, refl, sym, ap, _∙_}
 use mathlib.Core.Bool.{Bool, true, false, cond}
 use mathlib.Core.List.{List}
@@ -10,6 +10,8 @@ use lib.ListN.{length}
 use Rattle.meaning.specs.Strings.{Bit}
 use Rattle.meaning.specs.Scan.{many, place}
 use Rattle.meaning.specs.Packs.{sizes}
+use Rattle.meaning.specs.declared.Answer.{Answer}
+use Rattle.meaning.specs.Answers.{Outcome, cameTo}
 use Rattle.packs.specs.Found.{trees, refused, found}
 
 clash : {X : Type 0} {j x : ℕ} → trees j ≡ refused x → X
@@ -34,3 +36,7 @@ found-refused bs {x} e = go (eqb (place many bs) 0) refl
         let p : place many bs ≡ x = cc in
         let n : place many bs ≡ 0 → ⊥ = eqb-false (place many bs) 0 f in
         (p, omega arith)
+
+-- what a call comes to with an answer, it comes to with an equal one
+pub answered : {A : Type 0} {r s : Answer} {lent : A} {o : Outcome A} → r ≡ s → cameTo s lent ≡ o → cameTo r lent ≡ o
+answered {A} {r} {s} {lent} e f = ap (λ a. cameTo a lent) e ∙ f

@@ -1,12 +1,12 @@
 // Packs: strings of trees end to end, split and joined.
 ghost use mathlib.Core.Path.{_≡_};
 ghost use Prim.Native.Nat.{_*_, _≤_};
-ghost use lib.ListN.{length};
+ghost use lib.ListN.{length, set, take};
+ghost use lib.Seq.{sets};
 ghost use Rattle.meaning.specs.Answers.{cameTo, written};
 ghost use Rattle.meaning.specs.Bytes.{bitsFrom};
 ghost use Rattle.meaning.specs.Calls.{splitPack, joinPack};
 ghost use Rattle.meaning.specs.Packs.{sizes, starts};
-ghost use Rattle.meaning.specs.Scan.{many, place};
 ghost use Rattle.packs.specs.Found.{found, foundOf};
 use meaning::Answer;
 use meaning::LEFTOVER_SET;
@@ -38,12 +38,24 @@ fn wide(x: u32) -> usize
     x as usize
 }
 
-pub fn scan_pack(b: &[u8], n: usize) -> Pack
+// Stores entry k, where the list has one.
+fn note(list: &mut [u32], k: usize, x: u32)
+    ensures { λ _. ⌜ now (list .exit) ≡ set (now (list .entry)) k x ⌝ }
+{
+    if k < list.len() {
+        list[k] = x;
+    }
+}
+
+// Scans a pack, and notes the first bit and the node count of each tree for which the lists have an entry.
+fn scan_pack(b: &[u8], n: usize, firsts: &mut [u32], counts: &mut [u32]) -> Pack
     requires { do ⌜ n ≤ 8 * (← ⟦b.len()⟧) ⌝ }
     requires { ⌜ n ≤ 131071 ⌝ }
     ensures { λ r. ⌜ foundOf r ≡ found (bitsFrom (now (b .entry)) 0 n) ⌝ }
+    ensures { λ _. ⌜ now (firsts .exit) ≡ sets (now (firsts .entry)) 0 (starts (bitsFrom (now (b .entry)) 0 n)) ⌝ }
+    ensures { λ _. ⌜ now (counts .exit) ≡ sets (now (counts .entry)) 0 (sizes (bitsFrom (now (b .entry)) 0 n)) ⌝ }
 {
-    let mut trees: u32 = 0;
+    let mut trees: usize = 0;
     let mut at: usize = 0;
     while at < n {
         let end = tree_end(b, n, at);
@@ -51,36 +63,27 @@ pub fn scan_pack(b: &[u8], n: usize) -> Pack
             TreeEnd::Refused(place) => {
                 return Pack::Refused(place as u32);
             }
-            TreeEnd::Over { next, size: _ } => {
+            TreeEnd::Over { next, size } => {
+                note(firsts, trees, (at + 1) as u32);
+                note(counts, trees, size as u32);
                 trees += 1;
                 at = next;
             }
         }
     }
-    Pack::Trees(trees)
+    Pack::Trees(trees as u32)
 }
 
-// Writes the first bit and the node count of each tree of a pack that is sound.
-fn write_parts(b: &[u8], n: usize, firsts: &mut [u32], counts: &mut [u32])
-    requires { do ⌜ n ≤ 8 * (← ⟦b.len()⟧) ⌝ }
-    requires { ⌜ n ≤ 131071 ⌝ }
-    requires { ⌜ place many (bitsFrom (now b) 0 n) ≡ 0 ⌝ }
-    requires { ⌜ length (sizes (bitsFrom (now b) 0 n)) ≤ length (now firsts) ⌝ }
-    requires { ⌜ length (sizes (bitsFrom (now b) 0 n)) ≤ length (now counts) ⌝ }
-    ensures { λ _. ⌜ now (firsts .exit) ≡ written (starts (bitsFrom (now (b .entry)) 0 n)) (now (firsts .entry)) ⌝ }
-    ensures { λ _. ⌜ now (counts .exit) ≡ written (sizes (bitsFrom (now (b .entry)) 0 n)) (now (counts .entry)) ⌝ }
+// Writes the first k entries of a list to the front of another.
+fn hand_over(list: &[u32], k: usize, out: &mut [u32])
+    requires { ⌜ k ≤ length (now list) ⌝ }
+    requires { ⌜ k ≤ length (now out) ⌝ }
+    ensures { λ _. ⌜ now (out .exit) ≡ written (take k (now (list .entry))) (now (out .entry)) ⌝ }
 {
-    let mut k: usize = 0;
-    let mut here: usize = 0;
-    while here < n {
-        let end = tree_end(b, n, here);
-        let TreeEnd::Over { next, size } = end else {
-            return;
-        };
-        firsts[k] = (here + 1) as u32;
-        counts[k] = size as u32;
-        k += 1;
-        here = next;
+    let mut i: usize = 0;
+    while i < k {
+        out[i] = list[i];
+        i += 1;
     }
 }
 
@@ -106,7 +109,10 @@ pub fn split(
     if leftover_set(bytes, bits) {
         return refuse(LEFTOVER_SET, 0);
     }
-    let pack = scan_pack(bytes, bits);
+    // Nothing is written before everything is known to succeed.
+    let mut found_firsts = [0u32; MOST_TREES];
+    let mut found_counts = [0u32; MOST_TREES];
+    let pack = scan_pack(bytes, bits, &mut found_firsts, &mut found_counts);
     match pack {
         Pack::Refused(place) => refuse(NOT_STRING, place),
         Pack::Trees(found) => {
@@ -119,7 +125,8 @@ pub fn split(
             if counts.len() < trees {
                 return refuse(NO_ROOM, 0);
             }
-            write_parts(bytes, bits, firsts, counts);
+            hand_over(&found_firsts, trees, firsts);
+            hand_over(&found_counts, trees, counts);
             done(bits as u32, found)
         }
     }
@@ -152,7 +159,9 @@ pub fn join(pack: &mut [u8], bits: usize, trees: usize, parents: &[u32]) -> Answ
     if leftover_set(pack, bits) {
         return refuse(LEFTOVER_SET, 0);
     }
-    let scanned = scan_pack(pack, bits);
+    let mut no_firsts = [0u32; 0];
+    let mut no_counts = [0u32; 0];
+    let scanned = scan_pack(pack, bits, &mut no_firsts, &mut no_counts);
     match scanned {
         Pack::Refused(place) => refuse(NOT_STRING, place),
         Pack::Trees(found) => {

@@ -8,41 +8,10 @@ const KINDS: [i32; 10] = [1, 2, 3, 4, 5, 6, 7, 8, 9, 10];
 
 const ARGUMENTS: [i32; 8] = [-2147483648, -2, -1, 0, 1, 2, 3, 2147483647];
 
-// All kinds of question to node 2 of T.
-const ROUND: [i32; 30] = [
-    1,
-    2,
-    0,
-    2,
-    2,
-    0,
-    3,
-    2,
-    0,
-    4,
-    2,
-    0,
-    5,
-    2,
-    0,
-    6,
-    2,
-    0,
-    7,
-    2,
-    0,
-    8,
-    2,
-    2,
-    9,
-    2,
-    0,
-    10,
-    2,
-    2,
-];
+// Four questions to T, all allowed.
+const ROUND: [i32; 12] = [1, 7, 0, 8, 2, 2, 6, 1, 0, 10, 2, 1];
 
-// How far the parent of a node is behind that of the node before it, in the mixed tree: of eight nodes about six have children behind them, so its depth stays small.
+// How much greater the parent of a node is than that of the node before it, in the mixed tree: less than 1 on the average, so that the tree is not deep.
 const STEPS: [u32; 8] = [0, 0, 0, 0, 1, 0, 2, 3];
 
 // T has parents 0 1 1 1 2 2 4.
@@ -50,12 +19,17 @@ fn seal_t(image: &mut [u8]) {
     seal::image_of_parents(&[0, 1, 1, 1, 2, 2, 4], image);
 }
 
+// A lent list, or a part of one, as it is now.
+fn shown(name: &[u8], what: &[u8], list: &[u32]) {
+    show::about(name, what);
+    show::words(list);
+}
+
 // Questions to an image: what the call came to, and the lent list after it.
 fn ask_in(name: &[u8], what: &[u8], image: &[u8], asked: &[i32], answers: &mut [u32]) {
     show::about(name, what);
     show::answered(questions::ask(image, asked, answers));
-    show::about(name, what);
-    show::words(answers);
+    shown(name, what, answers);
 }
 
 // At most 5 questions to T.
@@ -79,7 +53,7 @@ fn put(asked: &mut [i32], at: usize, x: i32)
 
 // Question number i, from 0.
 fn put_question(asked: &mut [i32], i: usize, kind: i32, node: i32, argument: i32)
-    requires { ⌜ i < 256 ⌝ }
+    requires { ⌜ i ≤ 256 ⌝ }
     requires { ⌜ 3 * i + 3 ≤ length (now asked) ⌝ }
 {
     put(asked, 3 * i, kind);
@@ -96,127 +70,113 @@ fn put_kinds(asked: &mut [i32], node: i32)
     }
 }
 
-// One kind with small arguments and the extreme ones.
-fn put_arguments(asked: &mut [i32], kind: i32, node: i32)
-    requires { ⌜ 24 ≤ length (now asked) ⌝ }
+// Kinds 8 and 10 with small arguments and the extreme ones.
+fn put_arguments(asked: &mut [i32], node: i32)
+    requires { ⌜ 78 ≤ length (now asked) ⌝ }
 {
     for i in 0..8 {
-        put_question(asked, i, kind, node, ARGUMENTS[i]);
+        put_question(asked, 10 + i, 8, node, ARGUMENTS[i]);
+        put_question(asked, 18 + i, 10, node, ARGUMENTS[i]);
     }
 }
 
-fn kinds_of(name: &[u8], image: &[u8], node: i32) {
-    let mut asked = [0i32; 30];
-    let mut answers = [9u32; 11];
-    put_kinds(&mut asked, node);
-    ask_in(name, b"kinds", image, &asked, &mut answers);
-}
-
-fn arguments_of(name: &[u8], what: &[u8], image: &[u8], kind: i32, node: i32) {
-    let mut asked = [0i32; 24];
-    let mut answers = [9u32; 9];
-    put_arguments(&mut asked, kind, node);
-    ask_in(name, what, image, &asked, &mut answers);
-}
-
 fn node_of(name: &[u8], image: &[u8], node: i32) {
-    kinds_of(name, image, node);
-    arguments_of(name, b"children", image, 8, node);
-    arguments_of(name, b"siblings", image, 10, node);
+    let mut asked = [0i32; 78];
+    let mut answers = [9u32; 27];
+    put_kinds(&mut asked, node);
+    put_arguments(&mut asked, node);
+    show::about(name, b"asked");
+    show::answered(questions::ask(image, &asked, &mut answers));
+    shown(name, b"kinds", &answers[0..10]);
+    shown(name, b"children", &answers[10..18]);
+    shown(name, b"siblings", &answers[18..27]);
+}
+
+fn signed(x: usize) -> i32
+    requires { ⌜ x < 65536 ⌝ }
+{
+    x as i32
+}
+
+// The nodes from `first` on, without `end`.
+fn nodes_of(name: &[u8], image: &[u8], first: usize, end: usize)
+    requires { ⌜ first ≤ end ⌝ }
+    requires { ⌜ end < 65536 ⌝ }
+{
+    for node in first..end {
+        node_of(name, image, signed(node));
+    }
 }
 
 fn nodes_of_t() {
     let mut image = [0u8; 2560];
     seal_t(&mut image);
-    node_of(b"T-1", &image, 1);
-    node_of(b"T-2", &image, 2);
-    node_of(b"T-3", &image, 3);
-    node_of(b"T-4", &image, 4);
-    node_of(b"T-5", &image, 5);
-    node_of(b"T-6", &image, 6);
-    node_of(b"T-7", &image, 7);
+    nodes_of(b"T", &image, 1, 8);
 }
 
-// The round of questions over and over.
+// The four questions over and over.
 fn put_many(asked: &mut [i32]) {
     for i in 0..asked.len() {
-        put(asked, i, ROUND[i % 30]);
+        put(asked, i, ROUND[i % 12]);
     }
 }
 
-// So many numbers of questions to T.
-fn many(name: &[u8], numbers: usize)
+// So many numbers of questions to T; of the questions, counted from 1, one has no kind.
+fn many(name: &[u8], numbers: usize, bad: usize)
     requires { ⌜ numbers ≤ 771 ⌝ }
+    requires { ⌜ 0 < bad ⌝ }
+    requires { ⌜ bad ≤ 257 ⌝ }
 {
     let mut image = [0u8; 2560];
     let mut asked = [0i32; 771];
-    let mut answers = [9u32; 258];
-    seal_t(&mut image);
-    put_many(&mut asked);
-    ask_in(name, b"asked", &image, &asked[0..numbers], &mut answers);
-}
-
-// 256 questions of which one, counted from 1, has no kind.
-fn many_but(name: &[u8], bad: usize)
-    requires { ⌜ 0 < bad ⌝ }
-    requires { ⌜ bad ≤ 256 ⌝ }
-{
-    let mut image = [0u8; 2560];
-    let mut asked = [0i32; 768];
-    let mut answers = [9u32; 4];
+    let mut answers = [9u32; 257];
     seal_t(&mut image);
     put_many(&mut asked);
     put_question(&mut asked, bad - 1, 0, 1, 0);
-    ask_in(name, b"asked", &image, &asked, &mut answers);
+    ask_in(name, b"asked", &image, &asked[0..numbers], &mut answers);
 }
 
+// Questions in threes, and of those that are not allowed the lowest is named.
 fn sizes() {
     ask_t(b"no-questions", &[]);
     ask_t(b"one-number", &[1]);
     ask_t(b"two-numbers", &[1, 7]);
     ask_t(b"four-numbers", &[1, 7, 0, 1]);
-    many(b"256-questions", 768);
-    many(b"256-and-a-third", 769);
-    many(b"257-questions", 771);
+    ask_t(b"second-and-third-bad", &[1, 7, 0, 1, 7, 1, 0, 0, 0]);
+    ask_t(b"third-bad", &[1, 7, 0, 8, 1, 3, 4, 8, 0]);
 }
 
-fn kinds_refused() {
-    ask_t(b"kind-0", &[0, 1, 0]);
-    ask_t(b"kind-11", &[11, 1, 0]);
-    ask_t(b"kind-minus-1", &[-1, 1, 0]);
-    ask_t(b"greatest-kind", &[2147483647, 1, 0]);
-    ask_t(b"least-kind", &[-2147483648, 1, 0]);
-    ask_t(b"kind-8-plus-a-byte", &[264, 1, 0]);
+// 256 are the most: question 257 has no kind, and the second list is refused for its size all the same.
+fn greatest_sizes() {
+    many(b"256-questions", 768, 257);
+    many(b"257-questions", 771, 257);
+    many(b"769-numbers", 769, 1);
+    many(b"1-of-256", 768, 1);
+    many(b"200-of-256", 768, 200);
+    many(b"256-of-256", 768, 256);
 }
 
-fn nodes_refused() {
-    ask_t(b"node-0", &[1, 0, 0]);
-    ask_t(b"node-8", &[1, 8, 0]);
-    ask_t(b"node-minus-1", &[10, -1, 0]);
-    ask_t(b"greatest-node", &[8, 2147483647, 0]);
-    ask_t(b"least-node", &[9, -2147483648, 0]);
-    ask_t(b"node-1-plus-two-bytes", &[1, 65537, 0]);
+// Questions to T, each by itself.
+fn ask_each(name: &[u8], asked: &[i32])
+    requires { ⌜ length (now asked) ≤ 768 ⌝ }
+{
+    for i in 0..asked.len() / 3 {
+        let at = 3 * i;
+        ask_t(name, &asked[at..at + 3]);
+    }
 }
 
-// Kinds 1 to 7 and 9 have argument 0.
-fn arguments_refused() {
-    ask_t(b"parent-1", &[1, 2, 1]);
-    ask_t(b"first-child-minus-1", &[2, 2, -1]);
-    ask_t(b"last-child-2", &[3, 2, 2]);
-    ask_t(b"next-sibling-greatest", &[4, 2, 2147483647]);
-    ask_t(b"previous-sibling-least", &[5, 2, -2147483648]);
-    ask_t(b"degree-minus-1", &[6, 2, -1]);
-    ask_t(b"child-rank-1", &[7, 2, 1]);
-    ask_t(b"leaf-1", &[9, 2, 1]);
-}
-
-// Of several questions that are not allowed the lowest is named.
-fn lowest_refused() {
-    ask_t(b"second-and-third", &[1, 7, 0, 1, 7, 1, 0, 0, 0]);
-    ask_t(b"third", &[1, 7, 0, 8, 1, 3, 4, 8, 0]);
-    many_but(b"1-of-256", 1);
-    many_but(b"200-of-256", 200);
-    many_but(b"256-of-256", 256);
+// No such kind, no such node, and arguments of kinds 1 to 7 and 9 that are not 0.
+fn not_allowed() {
+    ask_each(b"kind", &[0, 1, 0, 11, 1, 0, -1, 1, 0, 264, 1, 0]);
+    ask_each(b"kind", &[2147483647, 1, 0, -2147483648, 1, 0]);
+    ask_each(b"node", &[1, 0, 0, 1, 8, 0, 10, -1, 0, 1, 65537, 0]);
+    ask_each(b"node", &[8, 2147483647, 0, 9, -2147483648, 0]);
+    ask_each(b"argument", &[1, 2, 1, 2, 2, -1, 3, 2, 2, 4, 2, 2147483647]);
+    ask_each(
+        b"argument",
+        &[6, 2, -1, 7, 2, 1, 9, 2, 1, 5, 2, -2147483648],
+    );
 }
 
 // Questions to T with room for so many answers.
@@ -229,10 +189,11 @@ fn ask_in_room(name: &[u8], asked: &[i32], room: usize)
     ask_in(name, b"asked", &image, asked, &mut answers[0..room]);
 }
 
+// Three questions need room for three answers; what is asked comes before room.
 fn rooms() {
-    ask_in_room(b"3-in-room-for-3", &[1, 7, 0, 6, 1, 0, 7, 6, 0], 3);
-    ask_in_room(b"3-in-room-for-2", &[1, 7, 0, 6, 1, 0, 7, 6, 0], 2);
-    ask_in_room(b"3-in-no-room", &[1, 7, 0, 6, 1, 0, 7, 6, 0], 0);
+    for room in 0..5 {
+        ask_in_room(b"3-in-room", &[1, 7, 0, 6, 1, 0, 7, 6, 0], room);
+    }
     ask_in_room(b"none-in-no-room", &[], 0);
     ask_in_room(b"third-bad-in-room-for-2", &[1, 7, 0, 6, 1, 0, 7, 8, 0], 2);
     ask_in_room(b"four-numbers-in-no-room", &[1, 7, 0, 6], 0);
@@ -263,56 +224,11 @@ fn seal_no_tree(image: &mut [u8])
     put_byte(image, 508, 190);
 }
 
-fn ask_damaged(name: &[u8], at: usize, asked: &[i32], room: usize)
-    requires { ⌜ at < 2560 ⌝ }
-    requires { ⌜ room ≤ 1 ⌝ }
-{
-    let mut image = [0u8; 2560];
-    let mut answers = [9u32; 1];
-    seal_damaged(&mut image, at);
-    ask_in(name, b"asked", &image, asked, &mut answers[0..room]);
-}
-
-fn ask_no_tree(name: &[u8], asked: &[i32]) {
-    let mut image = [0u8; 2560];
-    let mut answers = [9u32; 1];
-    seal_no_tree(&mut image);
-    ask_in(name, b"asked", &image, asked, &mut answers);
-}
-
-// Questions to the first bytes of T's image.
-fn ask_cut(name: &[u8], bytes: usize, asked: &[i32])
-    requires { ⌜ bytes ≤ 2560 ⌝ }
-{
-    let mut image = [0u8; 2560];
-    let mut answers = [9u32; 1];
-    seal_t(&mut image);
-    ask_in(name, b"asked", &image[0..bytes], asked, &mut answers);
-}
-
-// What is wrong with the image comes before what is asked and before room, and after how many numbers there are.
-fn images_refused() {
-    ask_damaged(b"damaged-fine", 1030, &[1, 7, 0], 1);
-    ask_damaged(b"damaged-kind-0", 2047, &[0, 0, 0], 1);
-    ask_damaged(b"damaged-no-room", 4, &[1, 7, 0], 0);
-    ask_damaged(b"damaged-two-numbers", 4, &[1, 7], 1);
-    ask_damaged(b"damaged-none", 600, &[], 1);
-    ask_no_tree(b"no-tree-kind-0", &[0, 0, 0]);
-    ask_no_tree(b"no-tree-two-numbers", &[1, 7]);
-}
-
-fn sizes_refused() {
-    ask_cut(b"2559-bytes", 2559, &[0, 0, 0]);
-    ask_cut(b"no-bytes", 0, &[0, 0, 0]);
-    ask_cut(b"2048-bytes", 2048, &[0, 0, 0]);
-}
-
 // A listing: what the call came to, and the lent list after it.
 fn list_in(name: &[u8], image: &[u8], node: u32, pairs: &mut [u32]) {
     show::about(name, b"listed");
     show::answered(listing::list(image, node, pairs));
-    show::about(name, b"pairs");
-    show::words(pairs);
+    shown(name, b"pairs", pairs);
 }
 
 fn list_t(name: &[u8], node: u32, room: usize)
@@ -324,56 +240,55 @@ fn list_t(name: &[u8], node: u32, room: usize)
     list_in(name, &image, node, &mut pairs[0..room]);
 }
 
+// From every node, and from 0 and 8.
 fn listings_of_t() {
-    list_t(b"T-from-1", 1, 16);
-    list_t(b"T-from-2", 2, 16);
-    list_t(b"T-from-3", 3, 16);
-    list_t(b"T-from-4", 4, 16);
-    list_t(b"T-from-7", 7, 16);
-    list_t(b"T-from-0", 0, 16);
-    list_t(b"T-from-8", 8, 16);
+    for node in 0..9 {
+        list_t(b"T", node, 16);
+    }
     list_t(b"T-from-4294967295", 4294967295, 16);
 }
 
+// From node 1, which takes 14 numbers.
 fn listings_in_room() {
-    list_t(b"T-from-1-in-14", 1, 14);
-    list_t(b"T-from-1-in-13", 1, 13);
-    list_t(b"T-from-2-in-6", 2, 6);
-    list_t(b"T-from-2-in-5", 2, 5);
-    list_t(b"T-from-7-in-2", 7, 2);
-    list_t(b"T-from-7-in-1", 7, 1);
-    list_t(b"T-from-7-in-0", 7, 0);
+    for room in 0..16 {
+        list_t(b"T-in-room", 1, room);
+    }
     list_t(b"T-from-8-in-0", 8, 0);
 }
 
-fn list_damaged(name: &[u8]) {
+// What is wrong with the image comes before what is asked and before room, and after how many numbers there are.
+fn refused(name: &[u8], image: &[u8]) {
+    let mut answers = [9u32; 1];
+    ask_in(name, b"fine", image, &[1, 7, 0], &mut answers);
+    ask_in(name, b"kind-0", image, &[0, 0, 0], &mut answers);
+    ask_in(name, b"no-room", image, &[1, 7, 0, 1, 7, 0], &mut answers);
+    ask_in(name, b"two-numbers", image, &[1, 7], &mut answers);
+    ask_in(name, b"no-questions", image, &[], &mut answers);
+    list_in(name, image, 0, &mut answers);
+}
+
+fn refused_damaged(name: &[u8], at: usize)
+    requires { ⌜ at < 2560 ⌝ }
+{
     let mut image = [0u8; 2560];
-    let mut pairs = [9u32; 2];
-    seal_damaged(&mut image, 1540);
-    list_in(name, &image, 0, &mut pairs);
+    seal_damaged(&mut image, at);
+    refused(name, &image);
 }
 
-fn list_no_tree(name: &[u8]) {
-    let mut image = [0u8; 2560];
-    let mut pairs = [9u32; 2];
-    seal_no_tree(&mut image);
-    list_in(name, &image, 0, &mut pairs);
+fn images_refused() {
+    let mut whole = [0u8; 2560];
+    let mut no_tree = [0u8; 2560];
+    seal_t(&mut whole);
+    seal_no_tree(&mut no_tree);
+    refused(b"2559-bytes", &whole[0..2559]);
+    refused(b"2048-bytes", &whole[0..2048]);
+    refused(b"no-tree", &no_tree);
+    refused_damaged(b"damaged-0", 4);
+    refused_damaged(b"damaged-3", 2047);
 }
 
-fn list_cut(name: &[u8]) {
-    let mut image = [0u8; 2560];
-    let mut pairs = [9u32; 2];
-    seal_t(&mut image);
-    list_in(name, &image[0..2559], 0, &mut pairs);
-}
-
-fn listings_refused() {
-    list_damaged(b"damaged-from-0");
-    list_no_tree(b"no-tree-from-0");
-    list_cut(b"2559-bytes-from-0");
-}
-
-// The parent of the node that has i nodes before it, in a tree of so many branches side by side below the root: from node number `both` on, from 0, only the last goes on.
+// The parent of the node that has i nodes before it, in a tree of so many branches side by side below the root.
+// Of the nodes with `both` or more before them there is one to a level: only the last branch goes on.
 fn parent_after(i: usize, branches: usize, both: usize) -> u32
     requires { ⌜ i < 65535 ⌝ }
 {
@@ -426,20 +341,14 @@ struct Sums {
     t: u32,
 }
 
-fn after(sums: Sums, x: u32) -> Sums {
-    let s = wrapping_add_u32(sums.s, x);
-    Sums {
-        s,
-        t: wrapping_add_u32(sums.t, s),
-    }
-}
-
 fn after_list(sums: Sums, list: &[u32]) -> Sums {
-    let mut now = sums;
+    let mut s = sums.s;
+    let mut t = sums.t;
     for i in 0..list.len() {
-        now = after(now, list[i]);
+        s = wrapping_add_u32(s, list[i]);
+        t = wrapping_add_u32(t, s);
     }
-    now
+    Sums { s, t }
 }
 
 // How many entries of a lent list are 9.
@@ -453,18 +362,13 @@ fn nines(list: &[u32]) -> u32 {
     k
 }
 
-fn sums_shown(name: &[u8], what: &[u8], sums: Sums) {
-    show::about(name, what);
-    show::words(&[sums.s, sums.t]);
-}
-
 // A listing too long to be shown: how many 9s there are after it, and the sums of the whole list.
 fn list_sums(name: &[u8], image: &[u8], node: u32, pairs: &mut [u32]) {
     show::about(name, b"listed");
     show::answered(listing::list(image, node, pairs));
-    show::about(name, b"nines");
-    show::words(&[nines(pairs)]);
-    sums_shown(name, b"totals", after_list(Sums { s: 0, t: 0 }, pairs));
+    shown(name, b"nines", &[nines(pairs)]);
+    let sums = after_list(Sums { s: 0, t: 0 }, pairs);
+    shown(name, b"totals", &[sums.s, sums.t]);
 }
 
 fn list_branches(name: &[u8], nodes: usize, branches: usize, both: usize, node: u32, room: usize)
@@ -555,105 +459,36 @@ fn seal_mixed(image: &mut [u8]) {
 }
 
 // Node 2710 has children 3496 to 4501.
-fn around_4000(image: &[u8]) {
-    node_of(b"mixed-1", image, 1);
-    node_of(b"mixed-20", image, 20);
-    node_of(b"mixed-2710", image, 2710);
-    node_of(b"mixed-3501", image, 3501);
-    node_of(b"mixed-3950", image, 3950);
-    node_of(b"mixed-3999", image, 3999);
+fn nodes_of_mixed(image: &[u8]) {
+    nodes_of(b"mixed-1", image, 1, 2);
+    nodes_of(b"mixed-2710", image, 2710, 2711);
+    nodes_of(b"mixed-from-3996", image, 3996, 4006);
+    nodes_of(b"mixed-from-4499", image, 4499, 4503);
+    nodes_of(b"mixed-5000", image, 5000, 5001);
 }
 
-fn after_4000(image: &[u8]) {
-    node_of(b"mixed-4000", image, 4000);
-    node_of(b"mixed-4001", image, 4001);
-    node_of(b"mixed-4002", image, 4002);
-    node_of(b"mixed-4500", image, 4500);
-    node_of(b"mixed-4501", image, 4501);
-    node_of(b"mixed-5000", image, 5000);
+fn ask_mixed(image: &[u8], asked: &[i32]) {
+    let mut answers = [9u32; 5];
+    ask_in(b"mixed-far", b"asked", image, asked, &mut answers);
 }
 
 // Arguments that lead far, to the last of the row and one further.
 fn far(image: &[u8]) {
-    let mut answers = [9u32; 6];
-    ask_in(
-        b"mixed-far",
-        b"children",
+    ask_mixed(
         image,
-        &[
-            8,
-            2710,
-            505,
-            8,
-            2710,
-            506,
-            8,
-            2710,
-            1006,
-            8,
-            2710,
-            1007,
-            8,
-            2710,
-            -1,
-        ],
-        &mut answers,
+        &[8, 2710, 505, 8, 2710, 506, 8, 2710, 1006, 8, 2710, 1007],
     );
-}
-
-fn far_siblings(image: &[u8]) {
-    let mut answers = [9u32; 6];
-    ask_in(
-        b"mixed-far",
-        b"siblings",
-        image,
-        &[
-            10,
-            3496,
-            1005,
-            10,
-            3496,
-            1006,
-            10,
-            4501,
-            -1005,
-            10,
-            4501,
-            -1006,
-            10,
-            3999,
-            2,
-        ],
-        &mut answers,
-    );
-}
-
-fn signed(x: usize) -> i32
-    requires { ⌜ x < 65536 ⌝ }
-{
-    x as i32
-}
-
-fn after_kinds(sums: Sums, image: &[u8], node: i32) -> Sums {
-    let mut asked = [0i32; 30];
-    let mut answers = [9u32; 11];
-    put_kinds(&mut asked, node);
-    questions::ask(image, &asked, &mut answers);
-    after_list(sums, &answers)
-}
-
-fn after_arguments(sums: Sums, image: &[u8], kind: i32, node: i32) -> Sums {
-    let mut asked = [0i32; 24];
-    let mut answers = [9u32; 9];
-    put_arguments(&mut asked, kind, node);
-    questions::ask(image, &asked, &mut answers);
-    after_list(sums, &answers)
+    ask_mixed(image, &[10, 3496, 1005, 10, 3496, 1006, 10, 3999, 2]);
+    ask_mixed(image, &[10, 4501, -1005, 10, 4501, -1006, 10, 4001, -2]);
 }
 
 fn after_node(sums: Sums, image: &[u8], node: i32) -> Sums {
-    let kinds = after_kinds(sums, image, node);
-    let children = after_arguments(kinds, image, 8, node);
-    after_arguments(children, image, 10, node)
+    let mut asked = [0i32; 78];
+    let mut answers = [9u32; 27];
+    put_kinds(&mut asked, node);
+    put_arguments(&mut asked, node);
+    questions::ask(image, &asked, &mut answers);
+    after_list(sums, &answers)
 }
 
 // The sums of the answers for all nodes.
@@ -662,7 +497,7 @@ fn all_answers(image: &[u8]) {
     for node in 1..5001 {
         sums = after_node(sums, image, signed(node));
     }
-    sums_shown(b"mixed", b"all-answers", sums);
+    shown(b"mixed", b"all-answers", &[sums.s, sums.t]);
 }
 
 fn list_mixed(name: &[u8], image: &[u8], node: u32) {
@@ -673,10 +508,8 @@ fn list_mixed(name: &[u8], image: &[u8], node: u32) {
 fn mixed() {
     let mut image = [9u8; 3584];
     seal_mixed(&mut image);
-    around_4000(&image);
-    after_4000(&image);
+    nodes_of_mixed(&image);
     far(&image);
-    far_siblings(&image);
     all_answers(&image);
     list_mixed(b"mixed-from-1", &image, 1);
     list_mixed(b"mixed-from-2710", &image, 2710);
@@ -687,19 +520,15 @@ fn asked() {
     cases();
     nodes_of_t();
     sizes();
-    kinds_refused();
-    nodes_refused();
-    arguments_refused();
-    lowest_refused();
+    greatest_sizes();
+    not_allowed();
     rooms();
-    images_refused();
-    sizes_refused();
 }
 
 fn listed() {
     listings_of_t();
     listings_in_room();
-    listings_refused();
+    images_refused();
     path_64();
     paths();
     two_branches();

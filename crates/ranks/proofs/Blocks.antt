@@ -16,12 +16,12 @@ use Rattle.theory.proofs.Payloads.{length-samples, sample-at}
 use Rattle.theory.specs.Layout.{bitPlace}
 use Rattle.theory.proofs.TreeImages.{length-stringIn, stringIn-at}
 use Rattle.bits.specs.Appended.{byteBits}
-use Rattle.stages.specs.Steps.{onesTo}
-use Rattle.stages.specs.Samples.{sampleIn}
-use Rattle.stages.proofs.Stepping.{onesTo-take, onesTo-cut}
+use Rattle.counts.specs.Parts.{onesTo}
+use Rattle.samples.specs.Samples.{sampleIn}
+use Rattle.counts.proofs.Ones.{onesTo-take, onesTo-cut}
 use Rattle.theory.proofs.InBlocks.{stringIn-cut, block-more}
 use Rattle.bits.proofs.Runs.{byte-run}
-use Rattle.stages.proofs.Sampling.{place-of-one, one-there, word-at}
+use Rattle.samples.proofs.Sampling.{place-of-one, one-there, word-at}
 use Rattle.ranks.proofs.Reaching.{ones-mono, same-place, past-place}
 
 -- ---- counts

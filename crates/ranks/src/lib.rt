@@ -7,7 +7,7 @@ ghost use Rattle.meaning.specs.Bytes.{bitsFrom};
 ghost use Rattle.meaning.specs.Image.{stringBlocks, stringIn};
 ghost use Rattle.theory.specs.Rank.{onesLeft, position};
 ghost use Rattle.theory.specs.Stages.{Kept, Sampled, blocksOfSamples, readR1, readR0};
-ghost use Rattle.stages.specs.Steps.{onesTo};
+ghost use Rattle.counts.specs.Parts.{onesTo};
 ghost use Rattle.image.specs.declared.Checked.the-variants.{Sound};
 ghost use Rattle.image.specs.Checked.{checked};
 use bits::ones_from;

@@ -1,7 +1,7 @@
 -- What the end of a tree says of the reading of its bits: where they are refused, which trees they hold, and how far the tree reaches.
 use mathlib.Core.Path.{_≡_, refl, sym, ap, ap₂, _∙_}
 use mathlib.Core.List.{List, [], _∷_}
-use mathlib.Core.Option.{some}
+use mathlib.Core.Option.{none, some}
 use Prim.Native.Nat.{ℕ, zero, suc, _+_, _-_, _*_, _≤_, _<_}
 use native.Mathlib.Omega.{arith}
 use lib.ListN.{length, take, drop, drop-of-length-le}
@@ -125,6 +125,21 @@ inside-sizes k (I ∷ bs) i p (suc m) {q} {s} e =
     ∙ inside-sizes k bs (suc i) (suc p) m e
     ∙ ap (λ r. s ∷ sizesFrom r (some (closed (suc k)))) (sym (drop-one I bs i q (let w = inside-within bs (suc i) (suc p) m e in omega arith)))
 
+-- where the bits are refused no size is noted, nor after it
+none-sized : (bs : List Bit) → sizesFrom bs none ≡ []
+unfolding sizesFrom
+none-sized [] = refl
+none-sized (b ∷ bs) = refl
+
+inside-unsized : (k : ℕ) (bs : List Bit) (i p m : ℕ) {x : ℕ} → insideEnd bs i p m ≡ refused x → sizesFrom bs (some (inside k p m)) ≡ []
+unfolding insideEnd sizesFrom
+inside-unsized k [] i p m e = refl
+inside-unsized k (O ∷ bs) i zero m e = absurd (not-refused e)
+inside-unsized k (O ∷ bs) i (suc p) m e = inside-unsized k bs (suc i) p m e
+inside-unsized k (I ∷ bs) i p zero e = note-one k p zero (sizesFrom bs none) ∙ none-sized bs
+inside-unsized k (I ∷ bs) i p (suc m) e =
+    note-one k p (suc m) (sizesFrom bs (some (inside k (suc p) m))) ∙ inside-unsized k bs (suc i) (suc p) m e
+
 -- ---- a tree: how far it reaches
 
 pub over-within : (bs : List Bit) (i : ℕ) {q s : ℕ} → treeEnd bs i ≡ over q s
@@ -208,6 +223,14 @@ sizes-over k (I ∷ O ∷ bs) i {q} {s} e =
     let w = inside-within bs (suc (suc i)) 0 65534 e in
     inside-sizes k bs (suc (suc i)) 0 65534 e
     ∙ ap (λ r. s ∷ sizesFrom r (some (closed (suc k)))) (sym (drop-one I (O ∷ bs) i q (omega arith) ∙ drop-one O bs (suc i) q (omega arith)))
+
+pub sizes-refused : (k : ℕ) (bs : List Bit) (i : ℕ) {x : ℕ} → treeEnd bs i ≡ refused x → sizesFrom bs (some (closed k)) ≡ []
+unfolding treeEnd sizesFrom
+sizes-refused k [] i e = refl
+sizes-refused k (O ∷ bs) i e = none-sized bs
+sizes-refused k (I ∷ []) i e = refl
+sizes-refused k (I ∷ I ∷ bs) i e = none-sized bs
+sizes-refused k (I ∷ O ∷ bs) i e = inside-unsized k bs (suc (suc i)) 0 65534 e
 
 -- ---- one tree
 

@@ -1,4 +1,1 @@
-pub mod Says
-pub mod Parts
-pub mod Steps
-pub mod Samples
+pub mod Passes

@@ -4,8 +4,10 @@ use mathlib.Core.Path.{ap, _∙_}
 use Prim.Native.Nat.{_+_, _≤_}
 use Rattle.theory.specs.ByStrings.{within}
 use Rattle.kinds.specs.Values.{valueOf}
+use Rattle.theory.specs.Rank.{onesLeft}
+use Rattle.theory.specs.Stages.{readR1}
 use Rattle.kinds.proofs.Own.{few, small1}
-use Rattle.kinds.proofs.Each.{one-more, child-none, child-some}
+use Rattle.kinds.proofs.Each.{one-more, next-there, child-none, child-some}
 use borrow.Author.Needs.{needs}
 use Rattle.kinds.proofs.child_number.Statement.{statement}
 use Rattle.kinds.proofs.child_number.Tie as tie
@@ -37,11 +39,20 @@ add-select-r1 c = omega (arith, room c .1)
 select-r1-requires : tie.Need-select-r1-requires
 select-r1-requires c κs = (c .before .before .before .before .pre .0, (omega arith, omega (arith, room c .0)))
 
-add-select-r1-2 : tie.Need-add-select-r1-2
-add-select-r1-2 c = omega (arith, room (c .before) .1)
+-- the next one comes after node low, so low is not the last node
+next : (c : tie.After-select-r1) → c .select-r1 .result + 1 ≤ c .before .before .before .before .before .args .image .nodes
+next c =
+    let s = c .before .before .before .before .before in
+    let a = s .args in
+    let k = c .before .rank-r0 in
+    let bit = c .before .before .before .bit-r0 in
+    next-there (a .b .now) (a .image) (s .pre .0) (a .x) (s .pre .1 .0) (s .pre .1 .1) (bit .result) (bit .ensures) (c .before .before .if1 .left) (k .result) (c .select-r1 .result) (k .ensures) (c .select-r1 .ensures)
 
-select-r1-requires-2 : tie.Need-select-r1-requires-2
-select-r1-requires-2 c κs = (c .before .before .before .before .before .pre .0, (omega arith, room (c .before) .0))
+add-run-last : tie.Need-add-run-last
+add-run-last c = omega (arith, next c)
+
+run-last-requires : tie.Need-run-last-requires
+run-last-requires c κs = (c .before .before .before .before .before .pre .0, (omega arith, next c))
 
 shifted-requires : tie.Need-shifted-requires
 shifted-requires c κs =
@@ -56,19 +67,21 @@ cast-result : tie.Need-cast-result
 cast-result c =
     let s = c .before .before .before .before .before .before .before .before in
     let a = s .args in
-    let k = c .before .before .before .before .rank-r0 in
-    omega (arith, small1 (a .b .now) (a .image) (s .pre .0) (k .result + 2), c .in-range .ensures .1)
+    let low = c .before .before .before .select-r1 in
+    omega (arith, small1 (a .b .now) (a .image) (s .pre .0) (onesLeft (readR1 (a .b .now)) (low .result + 1) + 1), c .in-range .ensures .1)
 
 returns-2 : tie.Need-returns-2
 returns-2 c =
     let s = c .before .before .before .before .before .before .before .before in
     let a = s .args in
-    let high = c .before .before in
-    let low = high .before in
-    let k = low .before in
+    let to = c .before .before in
+    let from = to .before in
+    let k = from .before in
     let bit = k .before .before .bit-r0 in
-    child-some (a .b .now) (a .image) (s .pre .0) (a .x) (s .pre .1 .0) (s .pre .1 .1) (bit .result) (bit .ensures) (k .before .if1 .left) (k .rank-r0 .result) (low .select-r1 .result) (high .select-r12 .result) (k .rank-r0 .ensures) (low .select-r1 .ensures) (high .select-r12 .ensures) (c .in-range .result) (valueOf (a .z))
-    (c .in-range .ensures .0 ∙ ap (within (low .select-r1 .result) (high .select-r12 .result)) (c .before .shifted .ensures))
+    let low = from .select-r1 in
+    let high = to .run-last in
+    child-some (a .b .now) (a .image) (s .pre .0) (a .x) (s .pre .1 .0) (s .pre .1 .1) (bit .result) (bit .ensures) (k .before .if1 .left) (k .rank-r0 .result) (low .result) (k .rank-r0 .ensures) (low .ensures) (high .result) (high .ensures) (c .in-range .result) (valueOf (a .z))
+    (c .in-range .ensures .0 ∙ ap (within (low .result) (high .result)) (c .before .shifted .ensures))
 
 pub child-number-spec : {M : Type 1} → statement M
 child-number-spec =
@@ -79,8 +92,8 @@ child-number-spec =
     rank-r0-requires
     add-select-r1
     select-r1-requires
-    add-select-r1-2
-    select-r1-requires-2
+    add-run-last
+    run-last-requires
     shifted-requires
     in-range-requires
     cast-result

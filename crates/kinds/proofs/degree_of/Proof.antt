@@ -1,8 +1,10 @@
 -- `kinds::degree_of` meets its contract.
 use native.Mathlib.Omega.{arith}
 use Prim.Native.Nat.{_+_, _≤_}
+use Rattle.theory.specs.Rank.{onesLeft}
+use Rattle.theory.specs.Stages.{readR1}
 use Rattle.kinds.proofs.Own.{few, small1}
-use Rattle.kinds.proofs.Each.{one-more, apart, degree-none, degree-some}
+use Rattle.kinds.proofs.Each.{one-more, next-there, above, degree-none, degree-some}
 use borrow.Author.Needs.{needs}
 use Rattle.kinds.proofs.degree_of.Statement.{statement}
 use Rattle.kinds.proofs.degree_of.Tie as tie
@@ -36,36 +38,44 @@ select-r1-requires c κs =
     let s = c .before .before .before .before in
     (s .pre .0, (omega arith, omega (arith, room c .0)))
 
-add-select-r1-2 : tie.Need-add-select-r1-2
-add-select-r1-2 c = omega (arith, room (c .before) .1)
-
-select-r1-requires-2 : tie.Need-select-r1-requires-2
-select-r1-requires-2 c κs =
+-- the next one comes after node low, so low is not the last node
+next : (c : tie.After-select-r1) → c .select-r1 .result + 1 ≤ c .before .before .before .before .before .args .image .nodes
+next c =
     let s = c .before .before .before .before .before in
-    (s .pre .0, (omega arith, room (c .before) .0))
+    let a = s .args in
+    let k = c .before .rank-r0 in
+    let bit = c .before .before .before .bit-r0 in
+    next-there (a .b .now) (a .image) (s .pre .0) (a .x) (s .pre .1 .0) (s .pre .1 .1) (bit .result) (bit .ensures) (c .before .before .if1 .left) (k .result) (c .select-r1 .result) (k .ensures) (c .select-r1 .ensures)
+
+add-run-last : tie.Need-add-run-last
+add-run-last c = omega (arith, next c)
+
+run-last-requires : tie.Need-run-last-requires
+run-last-requires c κs = (c .before .before .before .before .before .pre .0, (omega arith, next c))
 
 sub-result : tie.Need-sub-result
 sub-result c =
     let s = c .before .before .before .before .before .before in
     let a = s .args in
     let k = c .before .before .rank-r0 in
+    let low = c .before .select-r1 in
     let bit = c .before .before .before .before .bit-r0 in
-    omega (arith, apart (a .b .now) (a .image) (s .pre .0) (a .x) (s .pre .1 .0) (s .pre .1 .1) (bit .result) (bit .ensures) (c .before .before .before .if1 .left) (k .result) (k .ensures))
+    omega (arith, above (a .b .now) (a .image) (s .pre .0) (a .x) (s .pre .1 .0) (s .pre .1 .1) (bit .result) (bit .ensures) (c .before .before .before .if1 .left) (k .result) (low .result) (k .ensures) (low .ensures) (c .run-last .result) (c .run-last .ensures))
 
 cast-result : tie.Need-cast-result
 cast-result c =
     let s = c .before .before .before .before .before .before in
     let a = s .args in
-    let k = c .before .before .rank-r0 in
-    omega (arith, small1 (a .b .now) (a .image) (s .pre .0) (k .result + 2))
+    omega (arith, small1 (a .b .now) (a .image) (s .pre .0) (onesLeft (readR1 (a .b .now)) (c .before .select-r1 .result + 1) + 1))
 
 returns-2 : tie.Need-returns-2
 returns-2 c =
     let s = c .before .before .before .before .before .before in
     let a = s .args in
     let k = c .before .before .rank-r0 in
+    let low = c .before .select-r1 in
     let bit = c .before .before .before .before .bit-r0 in
-    degree-some (a .b .now) (a .image) (s .pre .0) (a .x) (s .pre .1 .0) (s .pre .1 .1) (bit .result) (bit .ensures) (c .before .before .before .if1 .left) (k .result) (c .before .select-r1 .result) (c .select-r12 .result) (k .ensures) (c .before .select-r1 .ensures) (c .select-r12 .ensures)
+    degree-some (a .b .now) (a .image) (s .pre .0) (a .x) (s .pre .1 .0) (s .pre .1 .1) (bit .result) (bit .ensures) (c .before .before .before .if1 .left) (k .result) (low .result) (k .ensures) (low .ensures) (c .run-last .result) (c .run-last .ensures)
 
 pub degree-of-spec : {M : Type 1} → statement M
 degree-of-spec =
@@ -76,8 +86,8 @@ degree-of-spec =
     rank-r0-requires
     add-select-r1
     select-r1-requires
-    add-select-r1-2
-    select-r1-requires-2
+    add-run-last
+    run-last-requires
     sub-result
     cast-result
     returns-2)

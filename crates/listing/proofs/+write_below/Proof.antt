@@ -1,226 +1,418 @@
 -- `listing::write_below` meets its contract.
-use mathlib.Core.Path.{_≡_, refl, sym, ap, _∙_}
-use mathlib.Core.List.{List, [], _∷_, _++_}
-use Prim.Native.Nat.{ℕ, _+_, _-_, _≤_, _<_}
-use native.Mathlib.Nat.{pos-of-ne-zero}
+use mathlib.Core.Path.{_≡_, refl, sym, ap, _∙_, subst}
+use mathlib.Core.List.{List, [], _∷_, _++_, append-assoc}
+use Prim.Native.Nat.{ℕ, suc, _+_, _-_, _≤_, _<_}
 use native.Mathlib.Omega.{arith}
-use lib.ListN.{length, set, length-set, length-take, length-drop, length-append}
+use lib.ListN.{length, getD, set, take, drop, length-set, length-take, length-drop, length-append}
+use lib.Seq.{take-all, drop-set-lt}
 use Rattle.meaning.specs.Answers.{written}
 use Rattle.meaning.specs.Image.{parentsIn}
 use Rattle.meaning.specs.Listing.{listing}
-use Rattle.listing.proofs.Numbers.{low-most, before-low}
-use Rattle.listing.proofs.Writing.{listings, listings-none, listings-step, listing-none, listing-leaf, listing-step, two, front-length, back, room, grows, ended, all-of}
+use Rattle.theory.specs.Stages.{nodesOf}
+use Rattle.image.specs.Checked.{imageIn}
+use Rattle.listing.specs.Levels.{low, below}
+use Rattle.listing.specs.Cursors.{NodeIn, Ready, MovedOn, under, ToWrite, Wrote}
+use Rattle.listing.proofs.Numbers.{low-most, most-nodes, child-mark, last-mark}
+use Rattle.listing.proofs.Cursors.{Along, along-none, first-child, along-child, along-more, along-all, along-leaf, stays}
+use Rattle.listing.proofs.Writing.{listings, listings-none, listings-step, under-step, under-leaf, pair-first, pair-put, front-length, back, room, grows, ended}
 use borrow.Fn.Kinds.{In}
 use borrow.Fn.PlainCycle.{Measures, is, falls, and}
 use Rattle.listing.proofs.write_below.Reads as write-below
 use Rattle.listing.proofs.write_below.Kinds as write-below-kinds
 use Rattle.listing.proofs.+write_below.Lts-write_below as write-below-lts
-use Rattle.kinds.proofs.is_leaf.Reads as is-leaf-reads
-use Rattle.kinds.proofs.ones_before_zero.Reads as ones-before-zero-reads
+use Rattle.listing.proofs.put_pair.Reads as put-pair-reads
+use Rattle.listing.proofs.has_child.Reads as has-child-reads
+use Rattle.listing.proofs.is_last.Reads as is-last-reads
 use Rattle.listing.proofs.+write_below.{statement}
 use Rattle.listing.proofs.+write_below.Tie.{close}
 
-abbrev μ-write-below : Measures 2 write-below-kinds.ps ℕ
+abbrev μ-write-below : Measures 3 write-below-kinds.ps ℕ
 μ-write-below κs a = a .1 .1 .1 .1 .0
 
-abbrev write-below-at : ℕ → In 2 write-below-kinds.ps
+abbrev write-below-at : ℕ → In 3 write-below-kinds.ps
 write-below-at t =
-    and 2 write-below-kinds.ps (is 2 write-below-kinds.ps μ-write-below t) write-below.Pre
+    and 3 write-below-kinds.ps (is 3 write-below-kinds.ps μ-write-below t) write-below.Pre
 
-abbrev write-below-below : ℕ → In 2 write-below-kinds.ps
+abbrev write-below-below : ℕ → In 3 write-below-kinds.ps
 write-below-below t =
-    and 2 write-below-kinds.ps (falls 2 write-below-kinds.ps _<_ μ-write-below t) write-below.Pre
+    and 3 write-below-kinds.ps (falls 3 write-below-kinds.ps _<_ μ-write-below t) write-below.Pre
 
-abbrev write-below-Inv-loop : write-below-lts.InvT-loop
-write-below-Inv-loop b image x depth left out₀ filled₀ a₀ z out filled a =
-    let pairs = listing left (parentsIn b) x depth in
-    (w : List ℕ) × (out ≡ written w out₀) × (w ++ listings (parentsIn b) (left - 1) (depth + 1) a z ≡ pairs) × (filled ≡ length w) × (2 ≤ length w) × (z ≤ image .nodes) × (length pairs ≤ length out₀)
+abbrev claims : ℕ → write-below-lts.Claims
+claims t = (put-pair-reads.Asked, put-pair-reads.Learnt, is-last-reads.Asked, is-last-reads.Learnt, has-child-reads.Asked, has-child-reads.Learnt, write-below-below t, write-below.Post)
 
-abbrev write-below-μ-loop : write-below-lts.MeasureT-loop
-write-below-μ-loop b image x depth left out₀ filled₀ a₀ z out filled a = z - a
+-- the children up to a are listed, w so far
+abbrev Inv : write-below-lts.InvT-loop
+Inv b zeros x inner left cursors₀ out₀ level filled₀ last₀ cursors out filled last =
+    let a = getD cursors (65 - left) 0 in
+    (w : List ℕ) × (out ≡ written w out₀) × (w ++ listings (parentsIn b) (left - 1) (64 - (left - 1)) a (low b (x + 1)) ≡ under b left x) × (filled ≡ length w)
+    × (low b x ≤ a) × (last ≡ 0 → a < low b (x + 1)) × ((last ≡ 0 → ⊥) → a ≡ low b (x + 1))
+    × (length cursors ≡ 64) × (take (65 - left) cursors ≡ take (65 - left) cursors₀) × Along b x (65 - left) (65 - (left - 1)) cursors₀ cursors a
 
--- there is room for the node itself
-long : (t : ℕ) (c : write-below-lts.Else1 (is-leaf-reads.Asked, is-leaf-reads.Learnt, ones-before-zero-reads.Asked, ones-before-zero-reads.Learnt, write-below-below t, write-below.Post) (write-below-at t) write-below.Post write-below-Inv-loop write-below-μ-loop) → 2 ≤ length (c .before .before .before .args .out .now)
-long t c =
+abbrev μ : write-below-lts.MeasureT-loop
+μ b zeros x inner left cursors₀ out₀ level filled₀ last₀ cursors out filled last = low b (x + 1) - getD cursors (65 - left) 0
+
+-- the node has a child, and the cursor tells the number before the first one
+first : (t : ℕ) (c : write-below-lts.Else1 (claims t) (write-below-at t) write-below.Post Inv μ)
+    → let a = c .before .before .before .args in
+    let b = a .b .now in
+    (low b (a .x) < low b (a .x + 1)) × (2 ≤ a .left) × (getD (a .cursors .now) (65 - a .left) 0 ≡ low b (a .x))
+first t c =
     let s = c .before .before .before in
     let a = s .args in
-    let e = listing-step (a .b .now) (a .image) (s .pre .1 .0) (a .left) (a .x) (a .depth) _ _ (pos-of-ne-zero (c .if1 .left)) refl refl in
-    omega (arith, ap length e, s .pre .1 .1 .1 .1 .1)
+    let b = a .b .now in
+    let p = s .pre .1 in
+    let inner = child-mark b (imageIn b) (p .node .sound) (a .x) (a .inner) (p .node .some) (p .node .most) (p .mark) .1 (c .if1 .left) in
+    let r = first-child b (imageIn b) (p .node .sound) (a .x) (65 - a .left) (65 - (a .left - 1)) (a .cursors .now) inner (p .ready) in
+    (inner, omega arith, r .1)
 
--- and for the next child
-child-room : (t : ℕ) (c : write-below-lts.In-loop (is-leaf-reads.Asked, is-leaf-reads.Learnt, ones-before-zero-reads.Asked, ones-before-zero-reads.Learnt, write-below-below t, write-below.Post) (write-below-at t) write-below.Post write-below-Inv-loop write-below-μ-loop)
-    → let a = c .before .before .before .before .before .before .before .before .before .args in
-    (length (c .before .loop .out) ≡ length (a .out .now))
-    × (c .before .loop .filled + length (listing (a .left - 1) (parentsIn (a .b .now)) (c .before .loop .a + 1) (a .depth + 1)) ≤ length (a .out .now))
+-- the next child is a node
+child : (t : ℕ) (c : write-below-lts.In-loop (claims t) (write-below-at t) write-below.Post Inv μ)
+    → let a = c .before .before .before .before .before .args in
+    let y = getD (c .before .loop .cursors) (65 - a .left) 0 in
+    (y < low (a .b .now) (a .x + 1)) × (y + 1 ≤ nodesOf (a .b .now)) × (nodesOf (a .b .now) ≤ 65535) × (2 ≤ a .left)
+child t c =
+    let s = c .before .before .before .before .before in
+    let b = s .args .b .now in
+    let f = s .pre .1 .node .sound in
+    let h = c .before .loop .inv .5 (c .loop-test .taken) in
+    (h, omega (arith, low-most b (imageIn b) f (s .args .x + 1)), most-nodes b (imageIn b) f, first t (c .before .before) .1)
+
+child-node : (t : ℕ) (c : write-below-lts.In-loop (claims t) (write-below-at t) write-below.Post Inv μ)
+    → let a = c .before .before .before .before .before .args in
+    NodeIn (a .b .now) (getD (c .before .loop .cursors) (65 - a .left) 0 + 1)
+child-node t c =
+    let r = child t c in
+    record { sound = c .before .before .before .before .before .pre .1 .node .sound; some = omega arith; most = r .1 }
+
+-- its listing begins with its pair
+child-pair : (t : ℕ) (c : write-below-lts.In-loop (claims t) (write-below-at t) write-below.Post Inv μ)
+    → let a = c .before .before .before .before .before .args in
+    let b = a .b .now in
+    let y = getD (c .before .loop .cursors) (65 - a .left) 0 + 1 in
+    listing (a .left - 1) (parentsIn b) y (64 - (a .left - 1)) ≡ y ∷ (64 - (a .left - 1)) ∷ under b (a .left - 1) y
+child-pair t c =
+    let s = c .before .before .before .before .before in
+    let b = s .args .b .now in
+    let r = child t c in
+    pair-first b (imageIn b) (s .pre .1 .node .sound) (s .args .left - 1) (getD (c .before .loop .cursors) (65 - s .args .left) 0 + 1) (omega arith) (omega arith)
+
+-- and there is room for it
+child-room : (t : ℕ) (c : write-below-lts.In-loop (claims t) (write-below-at t) write-below.Post Inv μ)
+    → let a = c .before .before .before .before .before .args in
+    let l = c .before .loop in
+    (length (l .out) ≡ length (a .out .now)) × (l .filled + 2 + length (under (a .b .now) (a .left - 1) (getD (l .cursors) (65 - a .left) 0 + 1)) ≤ length (a .out .now))
 child-room t c =
-    let a = c .before .before .before .before .before .before .before .before .before .args in
+    let s = c .before .before .before .before .before in
+    let a = s .args in
     let l = c .before .loop in
     let i = l .inv in
-    let z = c .before .before .ones-before-zero2 .result in
+    let y = getD (l .cursors) (65 - a .left) 0 in
+    let z = low (a .b .now) (a .x + 1) in
     let ps = parentsIn (a .b .now) in
     let f = a .left - 1 in
-    let d = a .depth + 1 in
-    let r = room (i .0) (listing (a .left) ps (a .x) (a .depth)) (listings ps f d (l .a) z) (i .2)
-    (l .out) (set (set (a .out .now) 0 (a .x)) 1 (a .depth)) (listing f ps (l .a + 1) d) (listings ps f d (l .a + 1) z)
-    (i .1) (listings-step ps f d (l .a) z (c .loop-test .taken)) (i .6) in
-    let k : length (set (set (a .out .now) 0 (a .x)) 1 (a .depth)) ≡ length (a .out .now) = simp length-set in
-    (omega arith, omega arith)
+    let d = 64 - f in
+    let r = room (i .0) (under (a .b .now) (a .left) (a .x)) (listings ps f d y z) (i .2) (l .out) (a .out .now) (listing f ps (y + 1) d) (listings ps f d (y + 1) z)
+    (i .1) (listings-step ps f d y z (child t c .0)) (s .pre .1 .room) in
+    let k = ap length (child-pair t c) in
+    (r .0, omega arith)
 
-write-below-returns : (t : ℕ) → write-below-lts.Need-returns (is-leaf-reads.Asked, is-leaf-reads.Learnt, ones-before-zero-reads.Asked, ones-before-zero-reads.Learnt, write-below-below t, write-below.Post) (write-below-at t) write-below.Post write-below-Inv-loop write-below-μ-loop
+-- the pair is written
+pair-written : (t : ℕ) (c : write-below-lts.After-put-pair (claims t) (write-below-at t) write-below.Post Inv μ)
+    → let k = c .before .before .before in
+    let a = k .before .before .before .before .before .args in
+    let l = k .before .loop in
+    c .put-pair .last .0 ≡ written (l .inv .0 ++ (getD (l .cursors) (65 - a .left) 0 + 1) ∷ (64 - (a .left - 1)) ∷ []) (a .out .now)
+pair-written t c =
+    let k = c .before .before .before in
+    let a = k .before .before .before .before .before .args in
+    let l = k .before .loop in
+    let i = l .inv in
+    let y = getD (l .cursors) (65 - a .left) 0 + 1 in
+    let m = child t k in
+    let r = child-room t k in
+    c .put-pair .ensures
+    ∙ ap (λ o. set (set o (l .filled) y) (l .filled + 1) (65 - a .left)) (i .1)
+    ∙ ap (λ d. set (set (written (i .0) (a .out .now)) (l .filled) y) (l .filled + 1) d) (let e : 65 - a .left ≡ 64 - (a .left - 1) = omega arith in e)
+    ∙ pair-put (i .0) (a .out .now) (l .filled) y (64 - (a .left - 1)) (i .3) (omega arith)
+
+put-room : (t : ℕ) (c : write-below-lts.After-put-pair (claims t) (write-below-at t) write-below.Post Inv μ)
+    → let k = c .before .before .before in
+    let a = k .before .before .before .before .before .args in
+    let l = k .before .loop in
+    (length (c .put-pair .last .0) ≡ length (a .out .now)) × (l .filled + 2 + length (under (a .b .now) (a .left - 1) (getD (l .cursors) (65 - a .left) 0 + 1)) ≤ length (a .out .now))
+put-room t c = let r = child-room t (c .before .before .before) in (c .put-pair .kept .0 ∙ r .0, r .1)
+
+-- the bytes that are lent anew are all of them
+whole : (b : List ℕ) → take (length b - 0) b ≡ b
+whole b = take-all (length b - 0) b (omega arith)
+
+write-below-returns : (t : ℕ) → write-below-lts.Need-returns (claims t) (write-below-at t) write-below.Post Inv μ
 write-below-returns t c =
-    let a = c .before .before .before .args in
-    let e = listing-none (parentsIn (a .b .now)) (a .left) (a .x) (a .depth) (c .if1 .taken) in
-    (ap (λ r. written r (a .out .now)) (sym e), ap length (sym e))
-
-write-below-cast-out : (t : ℕ) → write-below-lts.Need-cast-out (is-leaf-reads.Asked, is-leaf-reads.Learnt, ones-before-zero-reads.Asked, ones-before-zero-reads.Learnt, write-below-below t, write-below.Post) (write-below-at t) write-below.Post write-below-Inv-loop write-below-μ-loop
-write-below-cast-out t c = omega arith
-
-write-below-slice-write-out : (t : ℕ) → write-below-lts.Need-slice-write-out (is-leaf-reads.Asked, is-leaf-reads.Learnt, ones-before-zero-reads.Asked, ones-before-zero-reads.Learnt, write-below-below t, write-below.Post) (write-below-at t) write-below.Post write-below-Inv-loop write-below-μ-loop
-write-below-slice-write-out t c = let r = long t c in omega arith
-
-write-below-slice-write-out-2 : (t : ℕ) → write-below-lts.Need-slice-write-out-2 (is-leaf-reads.Asked, is-leaf-reads.Learnt, ones-before-zero-reads.Asked, ones-before-zero-reads.Learnt, write-below-below t, write-below.Post) (write-below-at t) write-below.Post write-below-Inv-loop write-below-μ-loop
-write-below-slice-write-out-2 t c = let r = long t c in simp length-set (omega arith)
-
-write-below-is-leaf-requires : (t : ℕ) → write-below-lts.Need-is-leaf-requires (is-leaf-reads.Asked, is-leaf-reads.Learnt, ones-before-zero-reads.Asked, ones-before-zero-reads.Learnt, write-below-below t, write-below.Post) (write-below-at t) write-below.Post write-below-Inv-loop write-below-μ-loop
-write-below-is-leaf-requires t c κs = let s = c .before .before .before in (s .pre .1 .0, (s .pre .1 .1 .0, s .pre .1 .1 .1 .0))
-
-write-below-returns-2 : (t : ℕ) → write-below-lts.Need-returns-2 (is-leaf-reads.Asked, is-leaf-reads.Learnt, ones-before-zero-reads.Asked, ones-before-zero-reads.Learnt, write-below-below t, write-below.Post) (write-below-at t) write-below.Post write-below-Inv-loop write-below-μ-loop
-write-below-returns-2 t c =
-    let a = c .before .before .before .before .before .args in
-    let e = listing-leaf (parentsIn (a .b .now)) (a .left) (a .x) (a .depth) (c .before .is-leaf .result) (pos-of-ne-zero (c .before .before .if1 .left)) (c .before .is-leaf .ensures) (c .if2 .taken) in
-    (all-of (a .x ∷ a .depth ∷ []) _ _ (a .out .now) (a .x) (a .depth) (sym e) (omega arith) (two (a .out .now) (a .x) (a .depth) (long t (c .before .before))), ap length (sym e))
-
-write-below-same-length : (t : ℕ) → write-below-lts.Need-same-length (is-leaf-reads.Asked, is-leaf-reads.Learnt, ones-before-zero-reads.Asked, ones-before-zero-reads.Learnt, write-below-below t, write-below.Post) (write-below-at t) write-below.Post write-below-Inv-loop write-below-μ-loop
-write-below-same-length t c = simp length-set
-
-write-below-ones-before-zero-requires : (t : ℕ) → write-below-lts.Need-ones-before-zero-requires (is-leaf-reads.Asked, is-leaf-reads.Learnt, ones-before-zero-reads.Asked, ones-before-zero-reads.Learnt, write-below-below t, write-below.Post) (write-below-at t) write-below.Post write-below-Inv-loop write-below-μ-loop
-write-below-ones-before-zero-requires t c κs = let s = c .before .before .before .before .before in (s .pre .1 .0, (s .pre .1 .1 .0, omega arith))
-
-write-below-add-ones-before-zero : (t : ℕ) → write-below-lts.Need-add-ones-before-zero (is-leaf-reads.Asked, is-leaf-reads.Learnt, ones-before-zero-reads.Asked, ones-before-zero-reads.Learnt, write-below-below t, write-below.Post) (write-below-at t) write-below.Post write-below-Inv-loop write-below-μ-loop
-write-below-add-ones-before-zero t c = omega arith
-
-write-below-ones-before-zero-requires-2 : (t : ℕ) → write-below-lts.Need-ones-before-zero-requires-2 (is-leaf-reads.Asked, is-leaf-reads.Learnt, ones-before-zero-reads.Asked, ones-before-zero-reads.Learnt, write-below-below t, write-below.Post) (write-below-at t) write-below.Post write-below-Inv-loop write-below-μ-loop
-write-below-ones-before-zero-requires-2 t c κs = let s = c .before .before .before .before .before .before in (s .pre .1 .0, (omega arith, omega arith))
-
-write-below-loop-holds : (t : ℕ) → write-below-lts.Need-loop-holds (is-leaf-reads.Asked, is-leaf-reads.Learnt, ones-before-zero-reads.Asked, ones-before-zero-reads.Learnt, write-below-below t, write-below.Post) (write-below-at t) write-below.Post write-below-Inv-loop write-below-μ-loop
-write-below-loop-holds t c =
-    let s = c .before .before .before .before .before .before .before in
+    let s = c .before .before .before in
     let a = s .args in
     let b = a .b .now in
-    let f = s .pre .1 .0 in
-    let l = long t (c .before .before .before .before) in
-    let e = c .before .ones-before-zero .ensures ∙ before-low b (a .image) f (a .x) (omega arith) (omega arith) in
-    let g = c .ones-before-zero2 .ensures ∙ before-low b (a .image) f (a .x + 1) (omega arith) (omega arith) in (
-      a .x ∷ a .depth ∷ [],
-      two (a .out .now) (a .x) (a .depth) l,
-      sym (listing-step b (a .image) f (a .left) (a .x) (a .depth) _ _ (pos-of-ne-zero (c .before .before .before .before .if1 .left)) e g),
+    let p = s .pre .1 in
+    let bare = child-mark b (imageIn b) (p .node .sound) (a .x) (a .inner) (p .node .some) (p .node .most) (p .mark) .0 (c .if1 .taken) in
+    let e = under-leaf b (imageIn b) (p .node .sound) (a .left) (a .x) (p .some) (p .most) bare in
+    record {
+      listed = ap (λ r. written r (a .out .now)) (sym e);
+      many = ap length (sym e);
+      count = p .count;
+      above = refl;
+      moved = along-leaf b (a .x) _ bare;
+    }
+
+write-below-sub-level : (t : ℕ) → write-below-lts.Need-sub-level (claims t) (write-below-at t) write-below.Post Inv μ
+write-below-sub-level t c = omega arith
+
+write-below-loop-holds : (t : ℕ) → write-below-lts.Need-loop-holds (claims t) (write-below-at t) write-below.Post Inv μ
+write-below-loop-holds t c =
+    let s = c .before .before .before in
+    let a = s .args in
+    let b = a .b .now in
+    let p = s .pre .1 in
+    let r = first t c in
+    let g : 65 - (a .left - 1) ≡ suc (65 - a .left) = omega arith in (
+      [],
+      refl,
+      ap (λ k. listings (parentsIn b) (a .left - 1) (64 - (a .left - 1)) k (low b (a .x + 1))) (r .2)
+          ∙ sym (under-step b (imageIn b) (p .node .sound) (a .left) (a .x) (p .some) (p .most)),
       refl,
       omega arith,
-      omega (arith, g, low-most b (a .image) f (a .x + 1)),
-      simp length-set (s .pre .1 .1 .1 .1 .1),
+      λ z. omega arith,
+      λ z. absurd (z refl),
+      p .count,
+      refl,
+      along-none b (imageIn b) (p .node .sound) (a .x) (65 - a .left) (65 - (a .left - 1)) (a .cursors .now) (r .0) g _ (r .2),
     )
 
-write-below-add-write-below : (t : ℕ) → write-below-lts.Need-add-write-below (is-leaf-reads.Asked, is-leaf-reads.Learnt, ones-before-zero-reads.Asked, ones-before-zero-reads.Learnt, write-below-below t, write-below.Post) (write-below-at t) write-below.Post write-below-Inv-loop write-below-μ-loop
-write-below-add-write-below t c = omega arith
+write-below-mul-child : (t : ℕ) → write-below-lts.Need-mul-child (claims t) (write-below-at t) write-below.Post Inv μ
+write-below-mul-child t c = let r = child t c in omega arith
 
-write-below-add-write-below-2 : (t : ℕ) → write-below-lts.Need-add-write-below-2 (is-leaf-reads.Asked, is-leaf-reads.Learnt, ones-before-zero-reads.Asked, ones-before-zero-reads.Learnt, write-below-below t, write-below.Post) (write-below-at t) write-below.Post write-below-Inv-loop write-below-μ-loop
-write-below-add-write-below-2 t c = omega arith
+write-below-element-copy-out-child : (t : ℕ) → write-below-lts.Need-element-copy-out-child (claims t) (write-below-at t) write-below.Post Inv μ
+write-below-element-copy-out-child t c = let r = child t c in omega arith
 
-write-below-sub-write-below : (t : ℕ) → write-below-lts.Need-sub-write-below (is-leaf-reads.Asked, is-leaf-reads.Learnt, ones-before-zero-reads.Asked, ones-before-zero-reads.Learnt, write-below-below t, write-below.Post) (write-below-at t) write-below.Post write-below-Inv-loop write-below-μ-loop
-write-below-sub-write-below t c = omega arith
+write-below-add-child : (t : ℕ) → write-below-lts.Need-add-child (claims t) (write-below-at t) write-below.Post Inv μ
+write-below-add-child t c = let r = child t (c .before) in omega arith
 
-write-below-mul-write-below : (t : ℕ) → write-below-lts.Need-mul-write-below (is-leaf-reads.Asked, is-leaf-reads.Learnt, ones-before-zero-reads.Asked, ones-before-zero-reads.Learnt, write-below-below t, write-below.Post) (write-below-at t) write-below.Post write-below-Inv-loop write-below-μ-loop
-write-below-mul-write-below t c = let r = child-room t c in omega arith
+write-below-mul-cursors : (t : ℕ) → write-below-lts.Need-mul-cursors (claims t) (write-below-at t) write-below.Post Inv μ
+write-below-mul-cursors t c = let r = child t (c .before) in omega arith
 
-write-below-sub-write-below-2 : (t : ℕ) → write-below-lts.Need-sub-write-below-2 (is-leaf-reads.Asked, is-leaf-reads.Learnt, ones-before-zero-reads.Asked, ones-before-zero-reads.Learnt, write-below-below t, write-below.Post) (write-below-at t) write-below.Post write-below-Inv-loop write-below-μ-loop
-write-below-sub-write-below-2 t c = let r = child-room t c in omega arith
+write-below-element-write-cursors : (t : ℕ) → write-below-lts.Need-element-write-cursors (claims t) (write-below-at t) write-below.Post Inv μ
+write-below-element-write-cursors t c = let r = child t (c .before) in omega arith
 
-write-below-part-write-below-start : (t : ℕ) → write-below-lts.Need-part-write-below-start (is-leaf-reads.Asked, is-leaf-reads.Learnt, ones-before-zero-reads.Asked, ones-before-zero-reads.Learnt, write-below-below t, write-below.Post) (write-below-at t) write-below.Post write-below-Inv-loop write-below-μ-loop
-write-below-part-write-below-start t c = let r = child-room t c in omega arith
+write-below-sub-put-pair : (t : ℕ) → write-below-lts.Need-sub-put-pair (claims t) (write-below-at t) write-below.Post Inv μ
+write-below-sub-put-pair t c = let r = child t (c .before .before) in omega arith
 
-write-below-part-write-below-end : (t : ℕ) → write-below-lts.Need-part-write-below-end (is-leaf-reads.Asked, is-leaf-reads.Learnt, ones-before-zero-reads.Asked, ones-before-zero-reads.Learnt, write-below-below t, write-below.Post) (write-below-at t) write-below.Post write-below-Inv-loop write-below-μ-loop
+write-below-put-pair-requires : (t : ℕ) → write-below-lts.Need-put-pair-requires (claims t) (write-below-at t) write-below.Post Inv μ
+write-below-put-pair-requires t c κs = let r = child-room t (c .before .before) in omega arith
+
+write-below-add-filled : (t : ℕ) → write-below-lts.Need-add-filled (claims t) (write-below-at t) write-below.Post Inv μ
+write-below-add-filled t c = let r = child-room t (c .before .before .before .before .before) in omega arith
+
+write-below-cast-y : (t : ℕ) → write-below-lts.Need-cast-y (claims t) (write-below-at t) write-below.Post Inv μ
+write-below-cast-y t c = let r = child t (c .before .before .before .before .before) in omega arith
+
+write-below-is-last-requires : (t : ℕ) → write-below-lts.Need-is-last-requires (claims t) (write-below-at t) write-below.Post Inv μ
+write-below-is-last-requires t c κs = child-node t (c .before .before .before .before .before)
+
+write-below-has-child-requires : (t : ℕ) → write-below-lts.Need-has-child-requires (claims t) (write-below-at t) write-below.Post Inv μ
+write-below-has-child-requires t c κs = (child-node t (c .before .before .before .before .before .before), c .before .before .before .before .before .before .before .before .before .before .before .pre .1 .begins)
+
+write-below-sub-write-below : (t : ℕ) → write-below-lts.Need-sub-write-below (claims t) (write-below-at t) write-below.Post Inv μ
+write-below-sub-write-below t c = let r = child t (c .before .before .before .before .before .before .before) in omega arith
+
+write-below-part-write-below-start : (t : ℕ) → write-below-lts.Need-part-write-below-start (claims t) (write-below-at t) write-below.Post Inv μ
+write-below-part-write-below-start t c = omega arith
+
+write-below-part-write-below-end : (t : ℕ) → write-below-lts.Need-part-write-below-end (claims t) (write-below-at t) write-below.Post Inv μ
 write-below-part-write-below-end t c = omega arith
 
-write-below-write-below-requires : (t : ℕ) → write-below-lts.Need-write-below-requires (is-leaf-reads.Asked, is-leaf-reads.Learnt, ones-before-zero-reads.Asked, ones-before-zero-reads.Learnt, write-below-below t, write-below.Post) (write-below-at t) write-below.Post write-below-Inv-loop write-below-μ-loop
+write-below-sub-write-below-2 : (t : ℕ) → write-below-lts.Need-sub-write-below-2 (claims t) (write-below-at t) write-below.Post Inv μ
+write-below-sub-write-below-2 t c = omega arith
+
+write-below-mul-write-below : (t : ℕ) → write-below-lts.Need-mul-write-below (claims t) (write-below-at t) write-below.Post Inv μ
+write-below-mul-write-below t c = let r = put-room t (c .before .before .before .before .before .before) in omega arith
+
+write-below-sub-write-below-3 : (t : ℕ) → write-below-lts.Need-sub-write-below-3 (claims t) (write-below-at t) write-below.Post Inv μ
+write-below-sub-write-below-3 t c = let r = put-room t (c .before .before .before .before .before .before) in omega arith
+
+write-below-part-write-below-start-2 : (t : ℕ) → write-below-lts.Need-part-write-below-start-2 (claims t) (write-below-at t) write-below.Post Inv μ
+write-below-part-write-below-start-2 t c = let r = put-room t (c .before .before .before .before .before .before) in omega arith
+
+write-below-part-write-below-end-2 : (t : ℕ) → write-below-lts.Need-part-write-below-end-2 (claims t) (write-below-at t) write-below.Post Inv μ
+write-below-part-write-below-end-2 t c = omega arith
+
+write-below-write-below-requires : (t : ℕ) → write-below-lts.Need-write-below-requires (claims t) (write-below-at t) write-below.Post Inv μ
 write-below-write-below-requires t c κs =
-    let r = child-room t (c .before) in
-    let s = c .before .before .before .before .before .before .before .before .before .before in
-    (omega arith, (s .pre .1 .0, (omega arith, (omega arith, (omega arith, simp (length-take, length-drop) (omega arith))))))
-
-write-below-add-filled : (t : ℕ) → write-below-lts.Need-add-filled (is-leaf-reads.Asked, is-leaf-reads.Learnt, ones-before-zero-reads.Asked, ones-before-zero-reads.Learnt, write-below-below t, write-below.Post) (write-below-at t) write-below.Post write-below-Inv-loop write-below-μ-loop
-write-below-add-filled t c = let r = child-room t (c .before .before .before .before) in omega arith
-
-write-below-add-a : (t : ℕ) → write-below-lts.Need-add-a (is-leaf-reads.Asked, is-leaf-reads.Learnt, ones-before-zero-reads.Asked, ones-before-zero-reads.Learnt, write-below-below t, write-below.Post) (write-below-at t) write-below.Post write-below-Inv-loop write-below-μ-loop
-write-below-add-a t c = omega arith
-
-write-below-loop-less : (t : ℕ) → write-below-lts.Need-loop-less (is-leaf-reads.Asked, is-leaf-reads.Learnt, ones-before-zero-reads.Asked, ones-before-zero-reads.Learnt, write-below-below t, write-below.Post) (write-below-at t) write-below.Post write-below-Inv-loop write-below-μ-loop
-write-below-loop-less t c = omega arith
-
-write-below-loop-again : (t : ℕ) → write-below-lts.Need-loop-again (is-leaf-reads.Asked, is-leaf-reads.Learnt, ones-before-zero-reads.Asked, ones-before-zero-reads.Learnt, write-below-below t, write-below.Post) (write-below-at t) write-below.Post write-below-Inv-loop write-below-μ-loop
-write-below-loop-again t c =
-    let h = c .before .before .before .before in
-    let a = h .before .before .before .before .before .before .before .before .before .args in
-    let l = h .before .loop in
-    let i = l .inv in
-    let ps = parentsIn (a .b .now) in
-    let z = h .before .before .ones-before-zero2 .result in
-    let p = listing (a .left - 1) ps (l .a + 1) (a .depth + 1) in
-    let s = c .before .before .write-below in
-    let r = child-room t h in
-    let f : length (i .0) ≤ length (set (set (a .out .now) 0 (a .x)) 1 (a .depth)) = simp length-set (omega arith) in
-    let step = listings-step ps (a .left - 1) (a .depth + 1) (l .a) z (h .loop-test .taken) in (
-      i .0 ++ p,
-      back (i .0) _ f (l .out) p (s .last .1 .1 .1 .1 .1 .0) (l .filled) (i .1) (i .3) (s .ensures .0),
-      grows (i .0) _ _ (i .2) p _ step,
-      simp length-append (omega arith),
-      simp length-append (omega arith),
-      i .5,
-      i .6,
+    let k = c .before .before .before .before .before .before .before .before .before .before in
+    let s = k .before .before .before .before .before in
+    let a = s .args in
+    let b = a .b .now in
+    let p = s .pre .1 in
+    let l = k .before .loop in
+    let e = 65 - a .left in
+    let e' = 65 - (a .left - 1) in
+    let y = getD (l .cursors) e 0 in
+    let m = child t k in
+    let out = c .before .before .before .before .before .before .before .put-pair .last .0 in
+    let r = put-room t (c .before .before .before .before .before .before .before) in
+    let part : length (take (length out - (l .filled + 2)) (drop (l .filled + 2) out)) ≡ length out - (l .filled + 2) = simp (length-take, length-drop) (omega arith) in
+    let below-child = along-child b (imageIn b) (p .node .sound) (a .x) e e' (a .cursors .now) (first t (k .before .before) .0) (p .ready) (l .cursors) y (m .0) (l .inv .9) in (
+      omega arith,
+      subst (λ bytes. ToWrite bytes (a .zeros) (y + 1) (c .before .before .before .has-child .result) (a .left - 1) (set (l .cursors) e (y + 1)) (take (length out - (l .filled + 2)) (drop (l .filled + 2) out))) (sym (whole b)) (record {
+        node = child-node t k;
+        begins = p .begins;
+        mark = c .before .before .before .has-child .ensures;
+        some = omega arith;
+        most = omega arith;
+        count = simp length-set (l .inv .7);
+        ready = subst (λ cs. Ready (below b) cs (low b (y + 1)) (low b (y + 1 + 1))) (sym (drop-set-lt e' (l .cursors) e (y + 1) (omega arith))) below-child;
+        room = omega arith;
+      }),
     )
 
-write-below-returns-3 : (t : ℕ) → write-below-lts.Need-returns-3 (is-leaf-reads.Asked, is-leaf-reads.Learnt, ones-before-zero-reads.Asked, ones-before-zero-reads.Learnt, write-below-below t, write-below.Post) (write-below-at t) write-below.Post write-below-Inv-loop write-below-μ-loop
-write-below-returns-3 t c =
-    let a = c .before .before .before .before .before .before .before .before .before .args in
+-- what is below the child is written
+wrote : (t : ℕ) (c : write-below-lts.After-write-below (claims t) (write-below-at t) write-below.Post Inv μ)
+    → let k = c .before .before .before .before .before .before .before .before .before .before .before in
+    let a = k .before .before .before .before .before .args in
+    let l = k .before .loop in
+    let y = getD (l .cursors) (65 - a .left) 0 + 1 in
+    let out = c .before .before .before .before .before .before .before .before .put-pair .last .0 in
+    Wrote (a .b .now) y (a .left - 1) (set (l .cursors) (65 - a .left) y) (c .write-below .last .1 .1 .1 .1 .1 .0)
+    (take (length out - (l .filled + 2)) (drop (l .filled + 2) out)) (c .write-below .last .1 .1 .1 .1 .1 .1 .0) (c .write-below .result)
+wrote t c =
+    let k = c .before .before .before .before .before .before .before .before .before .before .before in
+    let a = k .before .before .before .before .before .args in
+    let l = k .before .loop in
+    let y = getD (l .cursors) (65 - a .left) 0 + 1 in
+    let out = c .before .before .before .before .before .before .before .before .put-pair .last .0 in
+    subst (λ bytes. Wrote bytes y (a .left - 1) (set (l .cursors) (65 - a .left) y) (c .write-below .last .1 .1 .1 .1 .1 .0)
+    (take (length out - (l .filled + 2)) (drop (l .filled + 2) out)) (c .write-below .last .1 .1 .1 .1 .1 .1 .0) (c .write-below .result)) (whole (a .b .now)) (c .write-below .ensures)
+
+-- and the cursor stands at the child
+next : (t : ℕ) (c : write-below-lts.After-write-below (claims t) (write-below-at t) write-below.Post Inv μ)
+    → let k = c .before .before .before .before .before .before .before .before .before .before .before in
+    let a = k .before .before .before .before .before .args in
+    let l = k .before .loop in
+    let after = c .write-below .last .1 .1 .1 .1 .1 .0 in
+    (getD after (65 - a .left) 0 ≡ getD (l .cursors) (65 - a .left) 0 + 1) × (take (65 - a .left) after ≡ take (65 - a .left) (l .cursors))
+next t c =
+    let k = c .before .before .before .before .before .before .before .before .before .before .before in
+    let a = k .before .before .before .before .before .args in
+    let l = k .before .loop in
+    let m = child t k in
+    let long = l .inv .7 in
+    let g : 65 - (a .left - 1) ≡ suc (65 - a .left) = omega arith in
+    stays (l .cursors) (c .write-below .last .1 .1 .1 .1 .1 .0) (65 - a .left) (65 - (a .left - 1)) (getD (l .cursors) (65 - a .left) 0 + 1) g (omega arith) (wrote t c .above)
+
+write-below-add-filled-2 : (t : ℕ) → write-below-lts.Need-add-filled-2 (claims t) (write-below-at t) write-below.Post Inv μ
+write-below-add-filled-2 t c =
+    let r = child-room t (c .before .before .before .before .before .before .before .before .before .before .before .before .before) in
+    let w = wrote t (c .before .before) in
+    omega (arith, w .many)
+
+write-below-loop-less : (t : ℕ) → write-below-lts.Need-loop-less (claims t) (write-below-at t) write-below.Post Inv μ
+write-below-loop-less t c =
+    let m = child t (c .before .before .before .before .before .before .before .before .before .before .before .before .before) in
+    let n = next t (c .before .before) in
+    omega (arith, n .0)
+
+write-below-loop-again : (t : ℕ) → write-below-lts.Need-loop-again (claims t) (write-below-at t) write-below.Post Inv μ
+write-below-loop-again t c =
+    let d = c .before .before in
+    let k = d .before .before .before .before .before .before .before .before .before .before .before in
+    let s = k .before .before .before .before .before in
+    let a = s .args in
+    let b = a .b .now in
+    let f = s .pre .1 .node .sound in
+    let l = k .before .loop in
+    let i = l .inv in
+    let e = 65 - a .left in
+    let e' = 65 - (a .left - 1) in
+    let y = getD (l .cursors) e 0 in
+    let ps = parentsIn b in
+    let depth = 64 - (a .left - 1) in
+    let pairs = listing (a .left - 1) ps (y + 1) depth in
+    let m = child t k in
+    let r = child-room t k in
+    let w = wrote t d in
+    let n = next t d in
+    let first-two = ap length (child-pair t k) in
+    let many = w .many in
+    let here = n .0 in
+    let mark = last-mark b (imageIn b) f (a .x) (y + 1) (d .before .before .before .before .before .is-last .result) (omega arith) (omega arith) (d .before .before .before .before .before .is-last .ensures) in (
+      i .0 ++ pairs,
+      back (i .0 ++ (y + 1) ∷ depth ∷ []) (a .out .now) (simp length-append (omega arith)) _ (under b (a .left - 1) (y + 1)) _ (l .filled + 2) (pair-written t (d .before .before .before .before .before .before .before .before)) (simp length-append (omega arith)) (w .listed)
+          ∙ ap (λ v. written v (a .out .now)) (append-assoc (i .0) ((y + 1) ∷ depth ∷ []) (under b (a .left - 1) (y + 1)) ∙ ap (λ v. i .0 ++ v) (sym (child-pair t k))),
+      ap (λ q. (i .0 ++ pairs) ++ listings ps (a .left - 1) depth q (low b (a .x + 1))) here ∙ grows (i .0) _ _ (i .2) pairs _ (listings-step ps (a .left - 1) depth y (low b (a .x + 1)) (m .0)),
+      simp length-append (omega arith),
+      omega arith,
+      λ z. let q = mark .0 z in omega arith,
+      λ z. here ∙ mark .1 z,
+      w .count,
+      n .1 ∙ i .8,
+      subst (λ q. Along b (a .x) e e' (a .cursors .now) (d .write-below .last .1 .1 .1 .1 .1 .0) q) (sym here)
+          (along-more b (imageIn b) f (a .x) e e' (a .cursors .now) (l .cursors) (d .write-below .last .1 .1 .1 .1 .1 .0) y (m .0)
+          (subst (λ cs. MovedOn b (y + 1) cs (drop e' (d .write-below .last .1 .1 .1 .1 .1 .0))) (drop-set-lt e' (l .cursors) e (y + 1) (omega arith)) (w .moved)) (i .9)),
+    )
+
+write-below-returns-2 : (t : ℕ) → write-below-lts.Need-returns-2 (claims t) (write-below-at t) write-below.Post Inv μ
+write-below-returns-2 t c =
+    let s = c .before .before .before .before .before in
+    let a = s .args in
+    let b = a .b .now in
     let l = c .before .loop in
     let i = l .inv in
-    let z = c .before .before .ones-before-zero2 .result in
-    let e = ended (i .0) _ _ (i .2) (listings-none (parentsIn (a .b .now)) (a .left - 1) (a .depth + 1) (l .a) z (c .loop-test .left)) in
-    (all-of (i .0) _ (l .out) (a .out .now) (a .x) (a .depth) e (i .4) (i .1), i .3 ∙ ap length e)
+    let last = i .6 (c .loop-test .left) in
+    let r = first t (c .before .before) in
+    let e = ended (i .0) _ _ (i .2) (listings-none (parentsIn b) (a .left - 1) (64 - (a .left - 1)) (getD (l .cursors) (65 - a .left) 0) (low b (a .x + 1)) (omega arith)) in
+    let g : 65 - (a .left - 1) ≡ suc (65 - a .left) = omega arith in
+    record {
+      listed = i .1 ∙ ap (λ w. written w (a .out .now)) e;
+      many = i .3 ∙ ap length e;
+      count = i .7;
+      above = i .8;
+      moved = along-all b (imageIn b) (s .pre .1 .node .sound) (a .x) (65 - a .left) (65 - (a .left - 1)) (a .cursors .now) g (l .cursors) (omega arith) last (i .9);
+    }
 
-write-below-same-length-2 : (t : ℕ) → write-below-lts.Need-same-length-2 (is-leaf-reads.Asked, is-leaf-reads.Learnt, ones-before-zero-reads.Asked, ones-before-zero-reads.Learnt, write-below-below t, write-below.Post) (write-below-at t) write-below.Post write-below-Inv-loop write-below-μ-loop
-write-below-same-length-2 t c =
-    let s = c .before .before .before .before .before .before .before .before .before in
+write-below-same-length : (t : ℕ) → write-below-lts.Need-same-length (claims t) (write-below-at t) write-below.Post Inv μ
+write-below-same-length t c =
+    let s = c .before .before .before .before .before in
     let a = s .args in
-    ap length (write-below-returns-3 t c .0) ∙ front-length (listing (a .left) (parentsIn (a .b .now)) (a .x) (a .depth)) (a .out .now) (s .pre .1 .1 .1 .1 .1)
+    ap length (write-below-returns-2 t c .listed) ∙ front-length (under (a .b .now) (a .left) (a .x)) (a .out .now) (s .pre .1 .room)
 
 pub +write-below-spec : {M : Type 1} → statement M
-+write-below-spec = close μ-write-below λ t. write-below-lts.spec (is-leaf-reads.Asked, is-leaf-reads.Learnt, ones-before-zero-reads.Asked, ones-before-zero-reads.Learnt, write-below-below t, write-below.Post)
++write-below-spec = close μ-write-below λ t. write-below-lts.spec (claims t)
     (write-below-at t)
     write-below.Post
-    write-below-Inv-loop
-    write-below-μ-loop
+    Inv
+    μ
     (write-below-returns t)
-    (write-below-cast-out t)
-    (write-below-slice-write-out t)
-    (write-below-slice-write-out-2 t)
-    (write-below-is-leaf-requires t)
-    (write-below-same-length t)
-    (write-below-returns-2 t)
-    (write-below-ones-before-zero-requires t)
-    (write-below-add-ones-before-zero t)
-    (write-below-ones-before-zero-requires-2 t)
+    (write-below-sub-level t)
     (write-below-loop-holds t)
-    (write-below-add-write-below t)
-    (write-below-add-write-below-2 t)
+    (write-below-mul-child t)
+    (write-below-element-copy-out-child t)
+    (write-below-add-child t)
+    (write-below-mul-cursors t)
+    (write-below-element-write-cursors t)
+    (write-below-sub-put-pair t)
+    (write-below-put-pair-requires t)
+    (write-below-add-filled t)
+    (write-below-cast-y t)
+    (write-below-is-last-requires t)
+    (write-below-has-child-requires t)
     (write-below-sub-write-below t)
-    (write-below-mul-write-below t)
-    (write-below-sub-write-below-2 t)
     (write-below-part-write-below-start t)
     (write-below-part-write-below-end t)
+    (write-below-sub-write-below-2 t)
+    (write-below-mul-write-below t)
+    (write-below-sub-write-below-3 t)
+    (write-below-part-write-below-start-2 t)
+    (write-below-part-write-below-end-2 t)
     (write-below-write-below-requires t)
-    (write-below-add-filled t)
-    (write-below-add-a t)
+    (write-below-add-filled-2 t)
     (write-below-loop-less t)
     (write-below-loop-again t)
-    (write-below-same-length-2 t)
-    (write-below-returns-3 t)
+    (write-below-same-length t)
+    (write-below-returns-2 t)

@@ -1,11 +1,10 @@
 -- `listing::list` meets its contract.
-use mathlib.Core.Path.{_≡_, sym, ap, _∙_}
+use mathlib.Core.Path.{_≡_, refl, sym, ap, _∙_}
 use native.Mathlib.Nat.{pos-of-ne-zero}
-use native.Mathlib.Omega.{arith}
 use Rattle.meaning.specs.Answers.{cameTo}
 use Rattle.image.specs.declared.Checked.the-variants.{Sound}
 use Rattle.image.specs.Checked.{answered, checked}
-use Rattle.listing.proofs.Calling.{list-refused, list-zero, list-beyond, list-deep, list-short, list-room, list-given}
+use Rattle.listing.proofs.Calling.{list-refused, list-zero, list-beyond, list-deep, list-short, list-room, list-given, where-fits}
 use borrow.Author.Needs.{needs}
 use Rattle.listing.proofs.list.Statement.{statement}
 use Rattle.listing.proofs.list.Tie as tie
@@ -54,7 +53,9 @@ returns-3 c =
     ∙ list-beyond (a .b .now) (a .node) (a .out .now) (k .before .found .given .0 .0) (sound k) (c .before .if2 .taken)
 
 measure-requires : tie.Need-measure-requires
-measure-requires c κs = (sound (c .before .before .before), (pos-of-ne-zero (c .before .before .if1 .left), c .if2 .left))
+measure-requires c κs =
+    let e = c .before in
+    (sound (e .before .before .before), (pos-of-ne-zero (e .before .before .if1 .left), (e .if2 .left, refl)))
 
 enum-known-first : tie.Need-enum-known-first
 enum-known-first c = search needs
@@ -77,12 +78,26 @@ refuse-requires-4 c κs = search needs
 returns-4 : tie.Need-returns-4
 returns-4 c =
     let n = c .before .before .before in
-    let e = n .before .before .before in
+    let e = n .before .before .before .before in
     let k = e .before .before .before in
     let a = k .before .before .before .before .before .before .args in
     ap (λ r. cameTo r (a .out .now)) (c .refuse4 .ensures)
     ∙ list-short (a .b .now) (a .node) (a .out .now) (k .before .found .given .0 .0) (sound k) (pos-of-ne-zero (e .before .before .if1 .left)) (e .if2 .left)
-    (n .nodes .given .0 .0) (sym (n .nodes .given .1) ∙ n .before .before .measure .ensures) (c .before .if3 .taken)
+    (n .nodes .given .0 .0) (sym (n .nodes .given .1) ∙ n .before .before .measure .ensures .0) (c .before .if3 .taken)
+
+write-listing-requires : tie.Need-write-listing-requires
+write-listing-requires c κs =
+    let f = c .before .before in
+    let n = f .before .before in
+    let e = n .before .before .before .before in
+    let k = e .before .before .before in
+    let a = k .before .before .before .before .before .before .args in
+    let some = pos-of-ne-zero (e .before .before .if1 .left) in
+    let measured = n .before .before .measure .ensures in
+    let room =
+    list-room (a .b .now) (a .node) (a .out .now) (k .before .found .given .0 .0) (sound k) some (e .if2 .left)
+    (n .nodes .given .0 .0) (sym (n .nodes .given .1) ∙ measured .0) (f .if3 .left) in
+    (sound k, (some, (e .if2 .left, (measured .1 .0, (where-fits _ _ (n .nodes .given .1) (measured .1 .1), room)))))
 
 done-requires : tie.Need-done-requires
 done-requires c κs = search needs
@@ -90,12 +105,12 @@ done-requires c κs = search needs
 returns-5 : tie.Need-returns-5
 returns-5 c =
     let f = c .before .before in
-    let e = f .before .before .before in
+    let e = f .before .before .before .before in
     let k = e .before .before .before in
     let a = k .before .before .before .before .before .before .args in
     ap (λ r. cameTo r (a .out .now)) (c .refuse3 .ensures)
     ∙ list-deep (a .b .now) (a .node) (a .out .now) (k .before .found .given .0 .0) (sound k) (pos-of-ne-zero (e .before .before .if1 .left)) (e .if2 .left)
-    (f .first .given .0 .0) (sym (f .first .given .1) ∙ f .before .before .measure .ensures)
+    (f .first .given .0 .0) (sym (f .first .given .1) ∙ f .before .before .measure .ensures .0)
 
 same-length : tie.Need-same-length
 same-length c = search needs
@@ -103,33 +118,13 @@ same-length c = search needs
 returns-6 : tie.Need-returns-6
 returns-6 c =
     let w = c .before .before .before in
-    let n = w .before .before .before .before in
-    let e = n .before .before .before in
+    let f = w .before .before .before in
+    let n = f .before .before in
+    let e = n .before .before .before .before in
     let k = e .before .before .before in
     let a = k .before .before .before .before .before .before .args in
     list-given (a .b .now) (a .node) (a .out .now) (k .before .found .given .0 .0) (sound k) (pos-of-ne-zero (e .before .before .if1 .left)) (e .if2 .left)
-    (n .nodes .given .0 .0) (sym (n .nodes .given .1) ∙ n .before .before .measure .ensures) (w .before .before .if3 .left) _ _ (c .done .ensures) (w .write-below .ensures .0)
-
-write-below-requires : tie.Need-write-below-requires
-write-below-requires c κs =
-    let n = c .before .before .before in
-    let e = n .before .before .before in
-    let k = e .before .before .before in
-    let a = k .before .before .before .before .before .before .args in
-    let some = pos-of-ne-zero (e .before .before .if1 .left) in (
-      sound k,
-      (
-        some,
-        (
-          e .if2 .left,
-          (
-            omega arith,
-            list-room (a .b .now) (a .node) (a .out .now) (k .before .found .given .0 .0) (sound k) some (e .if2 .left)
-                (n .nodes .given .0 .0) (sym (n .nodes .given .1) ∙ n .before .before .measure .ensures) (c .before .if3 .left),
-          ),
-        ),
-      ),
-    )
+    (n .nodes .given .0 .0) (sym (n .nodes .given .1) ∙ n .before .before .measure .ensures .0) (f .if3 .left) _ _ (c .done .ensures) (w .write-listing .ensures)
 
 pub list-spec : {M : Type 1} → statement M
 list-spec =
@@ -152,7 +147,7 @@ list-spec =
     mul-if3
     refuse-requires-4
     returns-4
-    write-below-requires
+    write-listing-requires
     done-requires
     returns-5
     same-length

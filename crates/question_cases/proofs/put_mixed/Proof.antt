@@ -1,60 +1,42 @@
-use Prim.Native.Nat.{ℕ, _+_, _-_, _*_, _≤_, _<_, _/_}
-use mathlib.Core.Path.{_≡_, ap, sym, _∙_, refl}
-use mathlib.Core.Logic.{⊎-elim, _⊎_}
+-- `question_cases::put_mixed` is safe and ends.
+use Prim.Native.Nat.{_-_, _≤_}
+use mathlib.Core.Path.{_≡_}
 use native.Mathlib.Omega.{arith}
 use borrow.Author.Needs.{needs}
-use native.Mathlib.Nat.{mul-le-mul-right, le-of-lt, mul-comm}
-use lib.ListN.{length, set, length-set}
-use lib.Count.{ones-le, leading-le, trailing-le}
+use lib.ListN.{length}
 use Rattle.question_cases.proofs.put_mixed.Statement.{statement}
 use Rattle.question_cases.proofs.put_mixed.Tie as tie
-use Rattle.question_cases.proofs.put_mixed.Reads as reads
-use Rattle.question_cases.proofs.put_mixed.Lts as lts
-use Rattle.question_cases.proofs.next_parent.Reads as next-parent-reads
-use Rattle.question_cases.proofs.put_parent.Reads as put-parent-reads
-use Rattle.question_cases.proofs.stirred.Reads as stirred-reads
 
 abbrev Inv-loop : tie.InvT-loop
-Inv-loop parents₀ p₀ seed₀ i₀ i-end parents p seed i =
-    (i ≤ i-end) × ((i-end ≡ length parents) × (length parents ≡ length parents₀))
+Inv-loop parents₀ p₀ seed₀ i₀ i-end parents p seed i = (i ≤ i-end) × ((i-end ≡ length parents) × (length parents ≡ length parents₀))
 
 abbrev μ-loop : tie.MeasureT-loop
-μ-loop parents₀ p₀ seed₀ i₀ i-end parents p seed i =
-    i-end - i
+μ-loop parents₀ p₀ seed₀ i₀ i-end parents p seed i = i-end - i
 
--- src/main.rt:542:5
 loop-holds : tie.Need-loop-holds Inv-loop μ-loop
 loop-holds c = omega arith
 
--- src/main.rt:543:9
 put-parent-requires : tie.Need-put-parent-requires Inv-loop μ-loop
 put-parent-requires c κs = search needs
 
--- src/main.rt:544:9
 stirred-requires : tie.Need-stirred-requires Inv-loop μ-loop
 stirred-requires c κs = search needs
 
--- src/main.rt:545:9
 next-parent-requires : tie.Need-next-parent-requires Inv-loop μ-loop
 next-parent-requires c κs = search needs
 
--- src/main.rt:542:9
 add-i : tie.Need-add-i Inv-loop μ-loop
 add-i c = omega arith
 
--- src/main.rt:542:5
 loop-less : tie.Need-loop-less Inv-loop μ-loop
 loop-less c = omega arith
 
--- src/main.rt:542:5
 loop-again : tie.Need-loop-again Inv-loop μ-loop
 loop-again c = omega arith
 
--- src/main.rt:537:1
 same-length : tie.Need-same-length Inv-loop μ-loop
 same-length c = omega arith
 
--- src/main.rt:537:1
 returns : tie.Need-returns Inv-loop μ-loop
 returns c = search needs
 

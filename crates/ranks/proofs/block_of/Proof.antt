@@ -3,8 +3,8 @@ use mathlib.Core.Path.{_≡_, ap, _∙_}
 use Prim.Native.Nat.{_+_, _-_, _*_, _≤_, _<_}
 use native.Mathlib.Omega.{arith}
 use Rattle.theory.specs.Layout.{wordAt}
-use Rattle.stages.specs.Steps.{onesTo}
-use Rattle.stages.proofs.Stepping.{onesTo-mono}
+use Rattle.counts.specs.Parts.{onesTo}
+use Rattle.counts.proofs.Ones.{onesTo-mono}
 use Rattle.ranks.proofs.Blocks.{kept-count}
 use Rattle.ranks.proofs.block_of.Statement.{statement}
 use Rattle.ranks.proofs.block_of.Tie as tie

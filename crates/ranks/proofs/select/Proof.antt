@@ -2,8 +2,8 @@
 use mathlib.Core.Path.{_≡_, _∙_}
 use Prim.Native.Nat.{_-_, _*_, _/_, _%_, _≤_}
 use native.Mathlib.Omega.{arith}
-use Rattle.stages.specs.Steps.{onesTo}
-use Rattle.stages.proofs.Stepping.{onesTo-mono}
+use Rattle.counts.specs.Parts.{onesTo}
+use Rattle.counts.proofs.Ones.{onesTo-mono}
 use Rattle.ranks.proofs.Blocks.{kept-count, one-there-after, one-found, sample-start}
 use borrow.Author.Needs.{needs}
 use Rattle.ranks.proofs.select.Statement.{statement}

@@ -1,0 +1,67 @@
+-- `counts::string_kept` meets its contract.
+use Prim.Native.Nat.{_+_, _-_, _*_, _/_}
+use native.Mathlib.Omega.{arith}
+use borrow.Author.Needs.{needs}
+use Rattle.meaning.specs.Image.{stringIn}
+use Rattle.theory.specs.Stages.{Kept}
+use Rattle.counts.specs.Parts.{Counted, Unused}
+use Rattle.counts.proofs.Saying.{says-same, says-held, says-missed}
+use Rattle.counts.proofs.Blanks.{kept, kept-counts, kept-unused}
+use Rattle.counts.proofs.string_kept.Statement.{statement}
+use Rattle.counts.proofs.string_kept.Tie as tie
+
+counts-kept-requires : tie.Need-counts-kept-requires
+counts-kept-requires c κs = search needs
+
+returns : tie.Need-returns
+returns c =
+    let counts-kept = c .before .counts-kept in
+    let a = c .before .before .before .args in
+    λ k. says-missed (counts-kept .result) (Counted (a .b .now) (a .first) (a .n)) (counts-kept .ensures) (c .if1 .taken)
+    (kept-counts (a .b .now) (a .first) (a .n) (omega arith) k)
+
+sub-last : tie.Need-sub-last
+sub-last c = search needs
+
+add-rest-zero : tie.Need-add-rest-zero
+add-rest-zero c = search needs
+
+mul-rest-zero : tie.Need-mul-rest-zero
+mul-rest-zero c = search needs
+
+add-rest-zero-2 : tie.Need-add-rest-zero-2
+add-rest-zero-2 c = search needs
+
+mul-rest-zero-2 : tie.Need-mul-rest-zero-2
+mul-rest-zero-2 c = search needs
+
+sub-rest-zero : tie.Need-sub-rest-zero
+sub-rest-zero c = search needs
+
+rest-zero-requires : tie.Need-rest-zero-requires
+rest-zero-requires c κs = search needs
+
+returns-2 : tie.Need-returns-2
+returns-2 c =
+    let a = c .before .before .before .before .args in
+    let last = (a .n - 1) / 4000 in
+    let counts-kept = c .before .before .counts-kept in
+    let counted = says-held (counts-kept .result) (Counted (a .b .now) (a .first) (a .n)) (counts-kept .ensures) (c .before .if1 .left) in
+    says-same (c .rest-zero .result) (Unused (a .b .now) (512 * (a .first + last) + 4) (a .n - 4000 * last))
+    (Kept (a .b .now) (a .first) (stringIn (a .b .now) (a .first) 0 (a .n)))
+    (kept (a .b .now) (a .first) (a .n) (omega arith) counted) (kept-unused (a .b .now) (a .first) (a .n) (omega arith)) (c .rest-zero .ensures)
+
+pub string-kept-spec : {M : Type 1} → statement M
+string-kept-spec =
+    tie.close
+    (tie.spec
+    counts-kept-requires
+    returns
+    sub-last
+    add-rest-zero
+    mul-rest-zero
+    add-rest-zero-2
+    mul-rest-zero-2
+    sub-rest-zero
+    rest-zero-requires
+    returns-2)
