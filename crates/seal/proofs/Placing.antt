@@ -1,5 +1,5 @@
 -- Bytes, words and bits of an image: what a word or a bit that is put there changes, and what it leaves.
-use mathlib.Core.Path.{_≡_, refl, sym, ap, _∙_}
+use mathlib.Core.Path.{_≡_, refl, ap, _∙_}
 use mathlib.Core.Bool.{cond}
 use mathlib.Core.Logic.{_⊎_, inl, ⊎-elim}
 use mathlib.Core.List.{List, [], _∷_, _++_}
@@ -8,10 +8,9 @@ use native.Mathlib.Decide.{decLt, ℕ-discrete}
 use native.Mathlib.Nat.{zero-div}
 use native.Mathlib.Omega.{arith}
 use borrow.Author.Tests.{eq-eqb, ne-eqb}
-use lib.Dec.{eqb}
-use lib.Bits.{bitOr, or-zero-r}
-use lib.ListN.{length, set, getD, take, drop, length-append, length-drop, List·getD-append}
-use lib.Seq.{length-take-le, getD-take, getD-drop, getD-append-add, getD-set-other, set-getD}
+use lib.Bits.{bitOr}
+use lib.ListN.{length, getD, take, drop, length-append, length-drop, List·getD-append}
+use lib.Seq.{length-take-le, getD-take, getD-drop, getD-append-add, getD-set-other}
 use Rattle.meaning.specs.Strings.{O}
 use Rattle.meaning.specs.Bytes.{bit, bitAt}
 use Rattle.meaning.specs.Blocks.{le32}
@@ -20,7 +19,7 @@ use Rattle.theory.proofs.Digits.{wordAt-append, le32-first}
 use Rattle.bits.specs.Appended.{lit}
 use Rattle.bits.proofs.Appending.{lit-length}
 use Rattle.blocks.specs.Sealed.{withWord}
-use Rattle.seal.specs.Passes.{marked, markedIf, headed}
+use Rattle.seal.specs.Passes.{marked, headed}
 
 -- ---- the same bytes have the same bits and words
 
@@ -98,26 +97,6 @@ module _ (bytes : List ℕ) (from at x k : ℕ) where
   unfolding marked
   marked-plain d =
       let set = lit bytes (bitPlace from x) in ap (λ b. cond b (withWord set (samplePlace at (k / 64)) (x + 1)) set) (ne-eqb (k % 64) 0 d)
-
-  -- the same by d: what the bit and the sample came to
-  module _ (d : ℕ) (set : List ℕ) (is : set ≡ cond (eqb d 0) bytes (lit bytes (bitPlace from x))) where
-    pub marked-not : d ≡ 0 → set ≡ markedIf d bytes from at x k
-    marked-not e = is ∙ ap (λ b. cond b bytes (lit bytes (bitPlace from x))) (eq-eqb d 0 e) ∙ sym (ap (λ b. cond b bytes (marked bytes from at x k)) (eq-eqb d 0 e))
-
-    lit-if : (d ≡ 0 → ⊥) → set ≡ lit bytes (bitPlace from x)
-    lit-if n = is ∙ ap (λ b. cond b bytes (lit bytes (bitPlace from x))) (ne-eqb d 0 n)
-
-    marks : (d ≡ 0 → ⊥) → marked bytes from at x k ≡ markedIf d bytes from at x k
-    marks n = sym (ap (λ b. cond b bytes (marked bytes from at x k)) (ne-eqb d 0 n))
-
-    pub marked-bit : (k % 64 ≡ 0 → ⊥) → set ≡ markedIf d bytes from at x k
-    marked-bit h = elim (ℕ-discrete d 0) [
-      | yes e ↦ marked-not e
-      | no n ↦ lit-if n ∙ sym (marked-plain h) ∙ marks n
-    ]
-
-    pub marked-both : k % 64 ≡ 0 → (d ≡ 0 → ⊥) → (new : List ℕ) → new ≡ withWord set (samplePlace at (k / 64)) (x + 1) → new ≡ markedIf d bytes from at x k
-    marked-both e n new f = f ∙ ap (λ s. withWord s (samplePlace at (k / 64)) (x + 1)) (lit-if n) ∙ sym (marked-sample e) ∙ marks n
 
   module _ (room : 512 * (at + k / 64 / 126 + 1) ≤ length bytes) where
     fits : samplePlace at (k / 64) + 4 ≤ length (lit bytes (bitPlace from x))
@@ -199,13 +178,3 @@ module _ (bytes : List ℕ) (n m t : ℕ) (room : 16 ≤ length bytes) where
   headed-word sn sm st z (suc (suc (suc (suc w)))) h =
       let v = suc (suc (suc (suc w))) in
       word-agree (headed bytes n m t) bytes (4 * v) (λ q a b. headed-byte q (omega arith)) ∙ word-zero bytes (4 * v) (λ q a b. z q (omega arith))
-
--- a bit set by d in a byte
-pub set-if : (bytes : List ℕ) (p d : ℕ) → d ≤ 1
-    → set bytes (p / 8) (bitOr (getD bytes (p / 8) 0) (d * 2 ^ 7 % 2 ^ 8 / 2 ^ (p % 8))) ≡ cond (eqb d 0) bytes (lit bytes p)
-unfolding lit
-set-if bytes p zero h =
-    ap (λ m. set bytes (p / 8) (bitOr (getD bytes (p / 8) 0) m)) (zero-div (2 ^ (p % 8)))
-    ∙ ap (set bytes (p / 8)) (or-zero-r (getD bytes (p / 8) 0)) ∙ set-getD bytes (p / 8) 0
-set-if bytes p (suc zero) h = refl
-set-if bytes p (suc (suc d)) h = absurd (omega arith)

@@ -1,11 +1,8 @@
 -- What the pass over a parent list keeps: both strings so far and their samples, the header still blank, and the rest of the image as it was.
 use mathlib.Core.Path.{_≡_, refl, sym, ap, _∙_, subst, subst₂}
-use mathlib.Core.Bool.{cond}
-use mathlib.Core.Logic.{⊎-elim}
 use mathlib.Core.List.{List, [], _∷_, _++_, append-nil}
 use Prim.Native.Nat.{ℕ, _+_, _-_, _*_, _/_, _≤_, _<_}
 use native.Mathlib.Omega.{arith}
-use lib.Dec.{eqb}
 use lib.ListN.{length, getD, drop}
 use Rattle.meaning.specs.Parents.{IsParents}
 use Rattle.meaning.specs.Strings.{Bit, O, I, ones, R1, R0, stringOf}
@@ -15,9 +12,9 @@ use Rattle.theory.proofs.Payloads.{ones-le}
 use Rattle.strings.proofs.Marking.{good-parents}
 use Rattle.seal.specs.Listed.{nextOf}
 use Rattle.seal.specs.Filled.{Part}
-use Rattle.seal.specs.Passes.{marked, markedIf, marksIn, blocksFor, Ready, Ran}
+use Rattle.seal.specs.Passes.{marked, marksIn, blocksFor, Ready, Ran}
 use Rattle.seal.proofs.Lists.{R1-listed, R0-listed}
-use Rattle.seal.proofs.Walking.{sizes, Walk, walk-first, walk-ones, walk-last, walk-same, walk-bound, walk-order, walk-mark, differ-cases}
+use Rattle.seal.proofs.Walking.{sizes, Walk, walk-first, walk-ones, walk-last, walk-same, walk-order, walk-mark}
 use Rattle.seal.proofs.Placing.{marked-length, marked-byte}
 use Rattle.seal.proofs.Parting.{runOf, part-blank, part-agree, part-zero, part-marked}
 
@@ -84,7 +81,7 @@ module _ (ps old : List ℕ) (zeros first second : ℕ) (ready : Ready old ps ze
         kept = run .kept;
       }
 
-      running-same : (new : List ℕ) (j : ℕ) → y ≡ z → new ≡ out → j ≡ k → Running ps old new zeros first second (i + 1) j
+      pub running-same : (new : List ℕ) (j : ℕ) → y ≡ z → new ≡ out → j ≡ k → Running ps old new zeros first second (i + 1) j
       running-same new j e f g = subst₂ (λ s m. Running ps old s zeros first second (i + 1) m) (sym f) (sym g) (same e)
 
       module _ (n : y ≡ z → ⊥) where
@@ -92,12 +89,12 @@ module _ (ps old : List ℕ) (zeros first second : ℕ) (ready : Ready old ps ze
         after = walk-mark ps i k (run .done1) (run .done0) (run .walk) l y z ey ez n
 
         -- one more than there are so far, and the next entry is one
-        running-order : (k + 1 ≤ marksIn ps) × (1 ≤ z) × (z ≤ length ps + 1)
+        pub running-order : (k + 1 ≤ marksIn ps) × (1 ≤ z) × (z ≤ length ps + 1)
         running-order =
             let o = walk-order ps i k (run .done1) (run .done0) (run .walk) l y z ey ez n in
             (omega (arith, walk-ones ps (i + 1) (k + 1) _ _ after, ap ones (R1-listed ps are)), omega (arith, o .0), o .1)
 
-        running-mark : (new : List ℕ) (j : ℕ) → new ≡ marked (marked out 1 first i k) zeros second (z - 1) k → j ≡ k + 1
+        pub running-mark : (new : List ℕ) (j : ℕ) → new ≡ marked (marked out 1 first i k) zeros second (z - 1) k → j ≡ k + 1
             → Running ps old new zeros first second (i + 1) j
         running-mark new j e g = subst₂ (λ s m. Running ps old s zeros first second (i + 1) m) (sym e) (sym g) marks
           where
@@ -143,18 +140,3 @@ module _ (ps old : List ℕ) (zeros first second : ℕ) (ready : Ready old ps ze
                   tail = λ q a. away2 q (λ v. omega arith) (λ v. omega arith) ∙ away1 q (λ v. omega arith) (λ v. omega arith) ∙ run .tail q a;
                   kept = le2 ∙ le1 ∙ le;
                 }
-
-      -- d is 0 where they are the same, and else 1
-      module _ (d : ℕ) (is : d ≡ cond (eqb y z) 0 1) where
-        pub running-place : (d ≤ z) × (z - d ≤ length ps) × (1 ≤ d → k + 1 ≤ marksIn ps)
-        running-place = ⊎-elim
-            (λ v. (omega (arith, v .1), omega (arith, v .1, walk-bound ps i k (run .done1) (run .done0) (run .walk) l y z ey ez (v .0)), λ h. absurd (omega (arith, v .1))))
-            (λ v. let o = running-order (v .0) in (omega (arith, v .1, o .1), omega (arith, v .1, o .2), λ h. o .0))
-            (differ-cases y z d is)
-
-        pub running-next : (new : List ℕ) (j : ℕ) → new ≡ markedIf d (markedIf d out 1 first i k) zeros second (z - d) k → j ≡ k + d
-            → Running ps old new zeros first second (i + 1) j
-        running-next new j e g = ⊎-elim
-            (λ v. running-same new j (v .0) (e ∙ ap (λ c. markedIf c (markedIf c out 1 first i k) zeros second (z - c) k) (v .1)) (omega (arith, v .1)))
-            (λ v. running-mark (v .0) new j (e ∙ ap (λ c. markedIf c (markedIf c out 1 first i k) zeros second (z - c) k) (v .1)) (omega (arith, v .1)))
-            (differ-cases y z d is)

@@ -1,14 +1,9 @@
 -- A walk over a parent list: what R1 and R0 have become after so many entries, and how many ones each has.
 use mathlib.Core.Path.{_≡_, refl, sym, ap, ap₂, _∙_, subst}
-use mathlib.Core.Bool.{cond}
-use mathlib.Core.Logic.{_⊎_, inl, inr, ⊎-elim}
 use mathlib.Core.List.{List, [], _∷_, _++_, append-nil, append-assoc}
 use Prim.Native.Nat.{ℕ, zero, suc, _+_, _-_, _≤_, _<_}
-use native.Mathlib.Decide.{ℕ-discrete}
 use native.Mathlib.Numerals.{add-one}
 use native.Mathlib.Omega.{arith}
-use borrow.Author.Tests.{eq-eqb, ne-eqb}
-use lib.Dec.{eqb}
 use lib.ListN.{length, getD, drop, replicate, length-append, length-replicate, drop-of-length-le}
 use lib.Seq.{drop-cons}
 use Rattle.meaning.specs.Parents.{IsParents}
@@ -41,13 +36,6 @@ sizes ps h =
     }
 
 -- ---- one step
-
--- d is 0 where two numbers are the same, and else 1
-pub differ-cases : (y z d : ℕ) → d ≡ cond (eqb y z) 0 1 → ((y ≡ z) × (d ≡ 0)) ⊎ ((y ≡ z → ⊥) × (d ≡ 1))
-differ-cases y z d e = elim (ℕ-discrete y z) [
-  | yes f ↦ inl (f, e ∙ ap (λ b. cond b 0 1) (eq-eqb y z f))
-  | no f ↦ inr (f, e ∙ ap (λ b. cond b 0 1) (ne-eqb y z f))
-]
 
 length-gap : (d : ℕ) → length (gapOf d) ≡ d
 length-gap zero = refl
@@ -165,10 +153,6 @@ module _ (ps : List ℕ) (i k : ℕ) (done1 done0 : List Bit) (w : Walk ps i k d
           let s = subst (λ j. Walk ps (i + 1) (k + ones (markOf j ∷ [])) (done1 ++ markOf j ∷ []) (done0 ++ gapOf j)) d step in
           subst (λ n. Walk ps (i + 1) n (done1 ++ O ∷ []) (done0 ++ [])) (let v : k + 0 ≡ k = omega arith in v) s
 
-      pub walk-bound : y ≡ z → z ≤ length ps
-      unfolding p
-      walk-bound e = let h = here in omega (arith, h .1)
-
       -- the next entry is later: where it stands among the zeros
       pub walk-order : (y ≡ z → ⊥) → (length done0 + 1 ≤ z) × (z ≤ length ps + 1)
       unfolding p
@@ -216,20 +200,16 @@ walked-first ps h = record { done1 = []; done0 = []; walk = walk-first ps h }
 
 module _ (ps : List ℕ) (i k : ℕ) (w : Walked ps i k) (l : i < length ps) (y z : ℕ) (ey : y ≡ getD ps i 0)
     (ez : z ≡ nextOf (drop (i + 1) ps) (length ps + 1)) (j : ℕ) where
-  walked-same : y ≡ z → j ≡ k → Walked ps (i + 1) j
+  pub walked-same : y ≡ z → j ≡ k → Walked ps (i + 1) j
   walked-same e f = subst (λ n. Walked ps (i + 1) n) (sym f) (record {
     done1 = w .done1 ++ O ∷ [];
     done0 = w .done0 ++ [];
     walk = walk-same ps i k (w .done1) (w .done0) (w .walk) l y z ey ez e;
   })
 
-  walked-mark : (y ≡ z → ⊥) → j ≡ k + 1 → Walked ps (i + 1) j
+  pub walked-mark : (y ≡ z → ⊥) → j ≡ k + 1 → Walked ps (i + 1) j
   walked-mark n f = subst (λ n. Walked ps (i + 1) n) (sym f) (record {
     done1 = w .done1 ++ I ∷ [];
     done0 = w .done0 ++ (replicate (z - 1 - length (w .done0)) O ++ I ∷ []);
     walk = walk-mark ps i k (w .done1) (w .done0) (w .walk) l y z ey ez n;
   })
-
-  pub walked-next : (d : ℕ) → d ≡ cond (eqb y z) 0 1 → j ≡ k + d → Walked ps (i + 1) j
-  walked-next d e f =
-      ⊎-elim (λ v. walked-same (v .0) (omega (arith, v .1))) (λ v. walked-mark (v .0) (omega (arith, v .1))) (differ-cases y z d e)

@@ -20,10 +20,6 @@ unfoldable pub marked : List ℕ → ℕ → ℕ → ℕ → ℕ → List ℕ
 marked bytes from at x k =
     let set = lit bytes (bitPlace from x) in cond (eqb (k % 64) 0) (withWord set (samplePlace at (k / 64)) (x + 1)) set
 
--- the same where d is 1, and nothing where it is 0
-abbrev pub markedIf : ℕ → List ℕ → ℕ → ℕ → ℕ → ℕ → List ℕ
-markedIf d bytes from at x k = cond (eqb d 0) bytes (marked bytes from at x k)
-
 -- ---- the pass over the list
 
 abbrev pub marksIn : List ℕ → ℕ

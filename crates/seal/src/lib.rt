@@ -1,18 +1,15 @@
 // Images: a parent list's, sealed.
 ghost use mathlib.Core.Path.{_≡_};
-ghost use mathlib.Core.Bool.{cond};
 ghost use mathlib.Core.List.{_++_};
 ghost use Prim.Native.Nat.{_+_, _*_, _/_, _<_, _≤_};
-ghost use lib.Dec.{eqb};
 ghost use lib.ListN.{length, drop, replicate};
 ghost use Rattle.meaning.specs.Answers.{cameTo, written};
 ghost use Rattle.meaning.specs.Calls.{imageOfParents};
 ghost use Rattle.meaning.specs.Image.{stringBlocks, imageOfString};
 ghost use Rattle.meaning.specs.Parents.{badEntry};
 ghost use Rattle.meaning.specs.Strings.{stringOf};
-ghost use Rattle.bits.specs.Appended.{lit};
 ghost use Rattle.seal.specs.Listed.{nextOf};
-ghost use Rattle.seal.specs.Passes.{markedIf, marksIn, blocksFor, Ready, Ran, Counted, headed, Prepared};
+ghost use Rattle.seal.specs.Passes.{marked, marksIn, blocksFor, Ready, Ran, Counted, headed, Prepared};
 use meaning::Answer;
 use meaning::MOST_NODES;
 use meaning::NO_ROOM;
@@ -40,14 +37,6 @@ fn next_entry(ps: &[u32], i: usize) -> usize
     ps.len() + 1
 }
 
-// 1 where two numbers differ, and else 0: a number, so that the passes over a list do not branch on it.
-fn differ(a: usize, b: usize) -> usize
-    ensures { λ r. ⌜ r ≡ cond (eqb a b) 0 1 ⌝ }
-    ensures { λ r. ⌜ r ≤ 1 ⌝ }
-{
-    if a == b { 0 } else { 1 }
-}
-
 // How many runs of ones the string of a parent list has: as many as there are entries that differ from the next.
 fn count_marks(ps: &[u32]) -> usize
     requires { do ⌜ 1 ≤ (← ⟦ps.len()⟧) ⌝ }
@@ -58,7 +47,9 @@ fn count_marks(ps: &[u32]) -> usize
     let mut k: usize = 0;
     let mut i: usize = 0;
     while i < ps.len() {
-        k += differ(wide(ps[i]), next_entry(ps, i));
+        if wide(ps[i]) != next_entry(ps, i) {
+            k += 1;
+        }
         i += 1;
     }
     k
@@ -76,37 +67,21 @@ fn clear(image: &mut [u8], bytes: usize)
     }
 }
 
-// Sets the bit that p bits come before if d is 1, and leaves it if d is 0.
-fn set_bit_if(image: &mut [u8], p: usize, d: usize)
-    requires { ⌜ d ≤ 1 ⌝ }
-    requires { do ⌜ p < 8 * (← ⟦image.len()⟧) ⌝ }
-    ensures { λ _. ⌜ now (image .exit) ≡ cond (eqb d 0) (now (image .entry)) (lit (now (image .entry)) p) ⌝ }
-{
-    let i = p / 8;
-    image[i] = image[i] | (((d as u8) << 7) >> (p % 8));
-}
-
 // One number k, from 0, of the string whose blocks begin at `from`, after x bits; of each 64 ones the first is a sample, in the blocks from `at` on.
-// Only if d is 1: if it is 0, nothing changes.
-fn mark(image: &mut [u8], from: usize, at: usize, x: usize, k: usize, d: usize)
+fn mark(image: &mut [u8], from: usize, at: usize, x: usize, k: usize)
     requires { ⌜ from ≤ 53 ⌝ }
     requires { ⌜ at ≤ 53 ⌝ }
     requires { ⌜ x ≤ 65535 ⌝ }
     requires { ⌜ k ≤ 65535 ⌝ }
-    requires { ⌜ d ≤ 1 ⌝ }
     requires { do ⌜ 512 * (from + x / 4000 + 1) ≤ (← ⟦image.len()⟧) ⌝ }
-    requires { ⌜ (1 ≤ d → 512 * (at + k / 64 / 126 + 1) ≤ length (now image)) ⌝ }
-    ensures { λ _. ⌜ now (image .exit) ≡ markedIf d (now (image .entry)) from at x k ⌝ }
+    requires { do ⌜ 512 * (at + k / 64 / 126 + 1) ≤ (← ⟦image.len()⟧) ⌝ }
+    ensures { λ _. ⌜ now (image .exit) ≡ marked (now (image .entry)) from at x k ⌝ }
 {
-    set_bit_if(image, 8 * (512 * (from + x / 4000) + 4) + x % 4000, d);
-    if k % 64 != 0 {
-        return;
+    bits::set_bit(image, 8 * (512 * (from + x / 4000) + 4) + x % 4000);
+    if k % 64 == 0 {
+        let w = k / 64;
+        blocks::put_word(image, 512 * (at + w / 126) + 4 * (w % 126), (x + 1) as u32);
     }
-    if d == 0 {
-        return;
-    }
-    let w = k / 64;
-    blocks::put_word(image, 512 * (at + w / 126) + 4 * (w % 126), (x + 1) as u32);
 }
 
 // The bits and samples of both strings: where an entry differs from the next, a run of ones ends in R1, and in R0 the run of zeros before the next entry.
@@ -118,10 +93,11 @@ fn mark_runs(image: &mut [u8], ps: &[u32], zeros: usize, first: usize, second: u
     let mut i: usize = 0;
     while i < ps.len() {
         let next = next_entry(ps, i);
-        let d = differ(wide(ps[i]), next);
-        mark(image, 1, first, i, k, d);
-        mark(image, zeros, second, next - d, k, d);
-        k += d;
+        if wide(ps[i]) != next {
+            mark(image, 1, first, i, k);
+            mark(image, zeros, second, next - 1, k);
+            k += 1;
+        }
         i += 1;
     }
 }
