@@ -1,3 +1,4 @@
 pub mod Ends
 pub mod Steps
 pub mod Whole
+pub mod Table
