@@ -2,7 +2,6 @@ pub mod Values
 pub mod Table
 pub mod Byte
 pub mod Appending
-pub mod Writing
 pub mod Counting
 pub mod Placing
 pub mod Runs

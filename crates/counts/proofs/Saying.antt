@@ -14,9 +14,6 @@ says false P there back = λ p. let e = back p in let z : _≡_ {A = ℕ} 0 1 = 
 pub says-is : (a b : ℕ) (P : Type 0) → (a ≡ b → P) → (P → a ≡ b) → Says (eqb a b) P
 says-is a b P there back = says (eqb a b) P (λ e. there (eqb-true a b e)) (λ p. eq-eqb a b (back p))
 
-pub says-eqb : (a b : ℕ) → Says (eqb a b) (a ≡ b)
-says-eqb a b = says-is a b (a ≡ b) (λ e. e) (λ e. e)
-
 pub says-same : (t : Bool) (P Q : Type 0) → (P → Q) → (Q → P) → Says t P → Says t Q
 says-same true P Q there back s = there s
 says-same false P Q there back s = λ q. s (back q)

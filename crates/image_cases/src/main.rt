@@ -7,7 +7,7 @@ use std::num::wrapping_add_u32;
 
 // T has parents 0 1 1 1 2 2 4.
 fn seal_t(image: &mut [u8]) {
-    seal::image_of_parents(&[0, 1, 1, 1, 2, 2, 4], image);
+    parlaqen::plq_image_of_parents(&[0, 1, 1, 1, 2, 2, 4], image);
 }
 
 fn digit(x: u8, i: usize) -> u8
@@ -74,7 +74,7 @@ fn contents(name: &[u8], image: &[u8], n: usize)
 // The parents, in a lent list.
 fn read_in(name: &[u8], image: &[u8], parents: &mut [u32]) {
     show::about(name, b"read");
-    show::answered(image::parents_of_image(image, parents));
+    show::answered(parlaqen::plq_parents_of_image(image, parents));
     show::about(name, b"parents");
     show::words(parents);
 }
@@ -83,7 +83,7 @@ fn read_in(name: &[u8], image: &[u8], parents: &mut [u32]) {
 fn read(name: &[u8], image: &[u8]) {
     let mut parents = [9u32; 8];
     show::about(name, b"checked");
-    show::answered(image::check_image(image));
+    show::answered(parlaqen::plq_check_image(image));
     read_in(name, image, &mut parents);
 }
 
@@ -93,7 +93,7 @@ fn small(name: &[u8], parents: &[u32])
 {
     let mut image = [9u8; 2564];
     show::about(name, b"sealed");
-    show::answered(seal::image_of_parents(parents, &mut image));
+    show::answered(parlaqen::plq_image_of_parents(parents, &mut image));
     contents(name, &image, parents.len());
     show::about(name, b"behind");
     show::bytes(&image[2560..2564]);
@@ -264,7 +264,7 @@ fn nines(list: &[u8]) -> u32 {
 // Sealing: the answer, and how many bytes are still 9.
 fn seal_in(name: &[u8], parents: &[u32], image: &mut [u8]) {
     show::about(name, b"sealed");
-    show::answered(seal::image_of_parents(parents, image));
+    show::answered(parlaqen::plq_image_of_parents(parents, image));
     show::about(name, b"nines");
     show::words(&[nines(image)]);
 }
@@ -350,9 +350,9 @@ fn back(name: &[u8], image: &[u8], parents: &[u32])
     let mut read = [9u32; 65535];
     totals(name, image);
     show::about(name, b"checked");
-    show::answered(image::check_image(image));
+    show::answered(parlaqen::plq_check_image(image));
     show::about(name, b"read");
-    show::answered(image::parents_of_image(image, &mut read));
+    show::answered(parlaqen::plq_parents_of_image(image, &mut read));
     show::about(name, b"equal");
     show::words(&[equal(parents, &read)]);
 }
@@ -374,7 +374,7 @@ fn large(name: &[u8], nodes: usize, handle: u32)
     let mut image = [9u8; 27136];
     grow(&mut parents, handle);
     show::about(name, b"sealed");
-    show::answered(seal::image_of_parents(&parents[0..nodes], &mut image));
+    show::answered(parlaqen::plq_image_of_parents(&parents[0..nodes], &mut image));
     let blocks = layout(name, &image);
     if blocks <= 53 {
         let bytes = 512 * blocks;

@@ -1,5 +1,1 @@
-pub mod Counting
-pub mod Own
-pub mod Each
-pub mod Words
-pub mod Near
+pub mod Numbers

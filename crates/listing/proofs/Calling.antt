@@ -13,19 +13,17 @@ use Rattle.meaning.specs.Image.{parentsIn}
 use Rattle.meaning.specs.Questions.{isNode}
 use Rattle.meaning.specs.Listing.{listing, deep}
 use Rattle.meaning.specs.Calls.{listImage}
-use Rattle.theory.specs.Stages.{nodesOf, zerosFrom}
 use Rattle.theory.proofs.Settled.{settle-here, settle-on, settle-none}
 use Rattle.image.specs.declared.Image.{Image}
 use Rattle.image.specs.declared.Checked.{Checked}
 use Rattle.image.specs.declared.Checked.the-variants.{Sound, Refused}
 use Rattle.image.specs.Checked.{checked}
-use Rattle.image.proofs.Finding.{sound-known, comesTo, rows-checked}
-use Rattle.listing.specs.declared.Measured.{Measured}
-use Rattle.listing.specs.declared.Measured.the-variants.{Fits, TooDeep}
-use Rattle.listing.specs.Levels.{low, sized, sizeOf, WhereFits}
-use Rattle.listing.specs.Cursors.{NodeIn}
-use Rattle.listing.proofs.Levels.{listing-even, listing-less}
-use Rattle.listing.proofs.Numbers.{low-mono, low-kids, parents-count}
+use Rattle.image.proofs.Finding.{comesTo, rows-checked}
+use Rattle.levels.specs.declared.Measured.{Measured}
+use Rattle.levels.specs.declared.Measured.the-variants.{Fits, TooDeep}
+use Rattle.levels.specs.Levels.{low, sized, sizeOf, WhereFits}
+use Rattle.levels.proofs.Levels.{listing-even, listing-less}
+use Rattle.levels.proofs.Numbers.{low-mono, low-kids, parents-count}
 
 -- ---- what is measured tells
 
@@ -57,11 +55,6 @@ beyond-last n x h = ap (λ t. not (leb 1 x && t)) (lt-leb x n h) ∙ neither (le
 
 among : (n x : ℕ) → 1 ≤ x → x ≤ n → not (isNode n x) ≡ false
 among n x g h = ap₂ (λ s t. not (s && t)) (le-leb 1 x g) (le-leb x n h)
-
-pub node-in : (bytes : List ℕ) (i : Image) → checked bytes ≡ Sound i → (x : ℕ) → 1 ≤ x → x ≤ i .nodes → NodeIn bytes x × (i .zeros ≡ zerosFrom (nodesOf bytes))
-node-in bytes i found x some most =
-    let read = sound-known bytes i found .read in
-    (record { sound = found ∙ ap Sound read; some = some; most = omega (arith, ap (λ j. j .nodes) read) }, ap (λ j. j .zeros) read)
 
 -- ---- the call
 

@@ -24,7 +24,7 @@ use Rattle.listing.specs.Promises as P
 
 -- ---- listings
 
-lists-length : (t : Tree) (d : ℕ) (vs : List Node) (ns : List ℕ) → Lists t d vs ns → length ns ≡ 2 * length vs
+pub lists-length : (t : Tree) (d : ℕ) (vs : List Node) (ns : List ℕ) → Lists t d vs ns → length ns ≡ 2 * length vs
 lists-length t d [] [] l = refl
 lists-length t d [] (n ∷ ns) l = absurd l
 lists-length t d (v ∷ vs) [] l = absurd l

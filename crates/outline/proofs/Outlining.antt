@@ -1,7 +1,7 @@
 -- What is printed for an image, from what the check found and what the listing of the root came to.
 use mathlib.Core.Path.{_≡_, refl, sym, ap, ap₂, _∙_, subst}
 use mathlib.Core.Bool.{Bool, true, false, cond}
-use mathlib.Core.List.{List, [], _∷_, _++_}
+use mathlib.Core.List.{List, _++_}
 use Prim.Native.Nat.{ℕ, zero, suc, _*_, _/_, _≤_, _<_}
 use native.Mathlib.Omega.{arith}
 use borrow.Author.Tests.{lt-ltb, le-ltb, eq-eqb, ne-eqb}
@@ -21,14 +21,14 @@ use Rattle.image.specs.declared.Checked.the-variants.{Sound, Refused}
 use Rattle.image.specs.Checked.{answered, checked, imageIn}
 use Rattle.image.proofs.Finding.{sound-known}
 use Rattle.image.proofs.Calling.{image-answered}
-use Rattle.listing.specs.declared.Measured.the-variants.{Fits, TooDeep}
-use Rattle.listing.specs.Levels.{low, sized, sizeOf}
-use Rattle.listing.proofs.Levels.{listing-less}
-use Rattle.listing.proofs.Numbers.{low-mono, low-kids}
+use Rattle.levels.specs.Levels.{low, sized, sizeOf}
+use Rattle.levels.proofs.Levels.{listing-less}
+use Rattle.levels.proofs.Numbers.{low-mono, low-kids}
 use Rattle.listing.proofs.Calling.{list-deep, list-given}
-use Rattle.outline.specs.Outline.{heading, nodeLines, refusal, printed, outlineOf, Pairs}
-use Rattle.outline.specs.Text.{Puts}
-use Rattle.outline.proofs.Putting.{put-first, all-written}
+use Rattle.lines.specs.Lines.{heading, nodeLines, refusal}
+use Rattle.outline.specs.Outline.{printed, outlineOf}
+use Rattle.text.specs.Text.{Puts}
+use Rattle.text.proofs.Putting.{put-first, all-written}
 use Rattle.outline.proofs.Root.{Whole, root-whole}
 
 -- ---- a refusal has a code

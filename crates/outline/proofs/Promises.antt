@@ -1,42 +1,40 @@
 -- The promises of specs/Promises.antt.
 use mathlib.Core.Path.{_≡_, refl, sym, ap, ap₂, _∙_, subst}
-use mathlib.Core.Bool.{true, false, not}
+use mathlib.Core.Bool.{true, not}
 use mathlib.Core.List.{List, [], _∷_, _++_}
-use Prim.Native.Nat.{ℕ, _+_, _*_, _/_, _%_, _≤_, _<_}
+use Prim.Native.Nat.{ℕ, _+_, _*_, _/_, _%_, _≤_}
 use native.Mathlib.Omega.{arith}
 use native.Mathlib.Decide.{decLt}
 use lib.Dec.{eqb}
-use lib.IntN.{pos}
 use lib.ListN.{length, take, replicate, length-take, length-replicate}
 use lib.Seq.{take-all}
 use Rattle.meaning.specs.declared.Answer.{Answer}
-use Rattle.meaning.specs.Trees.{Tree, Node, nodes, depth, degreeOf}
+use Rattle.meaning.specs.Trees.{Tree, Node, nodes, depth}
 use Rattle.meaning.specs.Parents.{parents}
 use Rattle.meaning.specs.Strings.{ones, lbs, R1, stringOf}
 use Rattle.meaning.specs.Blocks.{blocksIn, wrongBlock}
 use Rattle.meaning.specs.Image.{imageOfString, image, isImage, parentsIn}
-use Rattle.meaning.specs.Questions.{childrenOf, answer, degree}
+use Rattle.meaning.specs.Questions.{answer, degree}
 use Rattle.meaning.specs.Listing.{listing, deep}
-use Rattle.meaning.specs.Answers.{refusedWith, counts, cameTo, settle, written}
+use Rattle.meaning.specs.Answers.{refusedWith, counts, settle, written}
 use Rattle.meaning.specs.Calls.{wrongSize, checkRows, checkImage, listImage}
-use Rattle.theory.specs.Rank.{withChildren}
-use Rattle.theory.specs.Walks.{root, nodeAt, everything, Lists, AllBelow, FirstAt}
-use Rattle.theory.proofs.Settled.{or-first, or-second, unequal, beyond, settle-none}
+use Rattle.theory.specs.Walks.{root, everything, Lists, AllBelow, FirstAt}
+use Rattle.theory.proofs.Settled.{or-first, or-second, unequal, beyond}
 use Rattle.theory.proofs.Parents.{parents-are}
-use Rattle.theory.proofs.Forms.{length-parents, string-parents}
+use Rattle.theory.proofs.Forms.{length-parents}
 use Rattle.theory.proofs.TreeImages.{parents-in}
 use Rattle.theory.proofs.Addresses.{first-node, degree-at}
 use Rattle.theory.proofs.Promises.{part-counts}
-use Rattle.image.specs.declared.Checked.the-variants.{Refused}
 use Rattle.image.proofs.Finding.{found-size}
-use Rattle.image.proofs.Promises.{tree-passed}
-use Rattle.listing.proofs.Promises.{listed-of-tree, too-deep-is-named}
-use Rattle.outline.specs.Text.{ascii, digits, decimal}
-use Rattle.outline.specs.Outline.{heading, nodeLine, nodeLines, refusal, printed, outlineOf}
+use Rattle.image.proofs.Promises.{tree-checked}
+use Rattle.listing.proofs.Promises.{listed-of-tree, lists-length, too-deep-is-named}
+use Rattle.text.specs.Text.{digits, decimal}
+use Rattle.lines.specs.Lines.{heading, nodeLine, nodeLines, refusal}
+use Rattle.outline.specs.Outline.{printed, outlineOf}
 use Rattle.outline.specs.Promises as P
 use Rattle.outline.specs.Promises.{headingOf, LinesOf}
-use Rattle.outline.proofs.Putting.{all-written}
-use Rattle.outline.proofs.Root.{every-node, lists-length}
+use Rattle.text.proofs.Putting.{all-written}
+use Rattle.outline.proofs.Root.{every-node}
 use Rattle.outline.proofs.Outlining.{not-found, many, not-listed, all-listed, by-answer, outline-refused}
 
 -- ---- of other bytes
@@ -67,12 +65,7 @@ module _ (t : Tree) (h : nodes t ≤ 65535) where
   found = counts (nodes t) (ones (R1 (lbs t)))
 
   tree-found : checkImage (image t) .answer ≡ found
-  unfolding checkImage checkRows
-  tree-found =
-      let ps = parents-in t h in
-      ap (λ o. o .answer)
-      (tree-passed t h false refl tt [] _ tt ∙ settle-none tt _ tt
-      ∙ ap₂ (λ n m. cameTo (counts n m) tt) (ap length ps ∙ length-parents t) (ap (λ qs. ones (R1 (stringOf qs))) ps ∙ ap (λ bs. ones (R1 bs)) (string-parents t)))
+  tree-found = ap (λ o. o .answer) (tree-checked t h)
 
   tree-top : heading (nodes t) (ones (R1 (lbs t))) (blocksIn (image t)) ≡ headingOf t
   tree-top = ap (λ m. heading (nodes t) m (blocksIn (image t))) (part-counts t .2)

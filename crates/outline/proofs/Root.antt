@@ -1,6 +1,6 @@
 -- The listing of an image's root, if no node is at depth 64, has two numbers for each node of the tree.
 use mathlib.Core.Path.{_≡_, refl, sym, ap, ap₂, _∙_, subst}
-use mathlib.Core.List.{List, [], _∷_, _++_}
+use mathlib.Core.List.{List, [], _∷_}
 use Prim.Native.Nat.{ℕ, suc, _+_, _*_, _≤_}
 use native.Mathlib.Omega.{arith}
 use lib.ListN.{length, length-append}
@@ -17,8 +17,9 @@ use Rattle.image.specs.declared.Image.{Image}
 use Rattle.image.specs.declared.Checked.the-variants.{Sound}
 use Rattle.image.specs.Checked.{checked}
 use Rattle.image.proofs.Finding.{sound-known}
-use Rattle.listing.proofs.Numbers.{parents-count}
-use Rattle.outline.specs.Outline.{Pairs}
+use Rattle.levels.proofs.Numbers.{parents-count}
+use Rattle.listing.proofs.Promises.{lists-length}
+use Rattle.lines.specs.Lines.{Pairs}
 
 -- ---- depth-first order has as many nodes as level order
 
@@ -45,13 +46,6 @@ unfolding nodes levelOrder
 every-node t = ap (λ v. length (everything v)) (first-node t) ∙ sym (tree-count t [])
 
 -- ---- what is listed
-
-pub lists-length : (t : Tree) (d : ℕ) (vs : List Node) (ns : List ℕ) → Lists t d vs ns → length ns ≡ 2 * length vs
-lists-length t d [] [] l = refl
-lists-length t d [] (n ∷ ns) l = absurd l
-lists-length t d (v ∷ vs) [] l = absurd l
-lists-length t d (v ∷ vs) (x ∷ []) l = absurd l
-lists-length t d (v ∷ vs) (x ∷ e ∷ ns) l = omega (arith, lists-length t d vs ns (l .2))
 
 lists-pairs : (t : Tree) (d : ℕ) (vs : List Node) (ns : List ℕ) → Lists t d vs ns → AllBelow (64 + d) vs → Pairs (nodes t) ns
 lists-pairs t d [] [] l b = tt

@@ -11,8 +11,9 @@ use Rattle.meaning.specs.Answers.{refusedWith}
 use Rattle.meaning.specs.Calls.{checkImage}
 use Rattle.theory.specs.Rank.{withChildren}
 use Rattle.theory.specs.Walks.{root, nodeAt, Number, everything, AllBelow, FirstAt}
-use Rattle.outline.specs.Text.{ascii}
-use Rattle.outline.specs.Outline.{heading, nodeLine, refusal, outlineOf}
+use Rattle.text.specs.Text.{ascii}
+use Rattle.lines.specs.Lines.{heading, nodeLine, refusal}
+use Rattle.outline.specs.Outline.{outlineOf}
 
 -- ---- Of a tree's image.
 

@@ -1,5 +1,1 @@
-pub mod Parts
-pub mod Telling
-pub mod Splitting
-pub mod Joining
 pub mod Promises

@@ -29,11 +29,12 @@ use Rattle.bits.specs.Appended.{appended}
 use Rattle.bits.proofs.Appending.{appended-length, appended-bytes, appended-new, appended-read}
 use Rattle.strings.proofs.Codes.{not-unequal, none-held, row-held}
 use Rattle.strings.proofs.Promises.{tree-read}
-use Rattle.packs.specs.Found.{trees, refused, found}
+use Rattle.pack_scan.specs.Found.{trees, refused, found}
+use Rattle.holding.proofs.Rows.{held-trees}
+use Rattle.splitting.proofs.Splitting.{split-made}
+use Rattle.joining.proofs.Joining.{join-done}
 use Rattle.packs.specs.Promises.{HoldsPack, joinAll}
 use Rattle.packs.specs.Promises as P
-use Rattle.packs.proofs.Splitting.{split-made}
-use Rattle.packs.proofs.Joining.{join-done}
 
 -- ---- trees one after the other
 
@@ -68,8 +69,8 @@ split-gives-trees ts firsts sizesOut f room roomSizes =
     let bits = strings ts in
     let bytes = packed bits in
     let L = length bits in
-    sym (split-made bytes L (length ts) firsts sizesOut (record { short = f .short; exact = packed-length bits; few = f .few }) (packed-leftover bits)
-    (length ts) (all-found ts (f .small) (bitsFrom bytes 0 L) (packed-read bits)) refl room roomSizes)
+    sym (split-made bytes L (length ts) firsts sizesOut (record { short = f .short; exact = packed-length bits; few = f .few })
+    (held-trees bytes L (length ts) (packed-leftover bits) (all-found ts (f .small) (bitsFrom bytes 0 L) (packed-read bits)) refl) room roomSizes)
     ∙ ap₂ (λ a b. cameTo (counts L (length ts)) (written a firsts, written b sizesOut))
     (ap starts (packed-read bits) ∙ starts-are ts (f .small))
     (ap sizes (packed-read bits) ∙ sizes-are ts (f .small))
@@ -96,7 +97,7 @@ module _ (pack : List ℕ) (ts : List Tree) (t : Tree) (h : HoldsPack pack ts) (
       let p = parents-are t in
       sym (join-done pack L (length ts) (parents t)
       (record { some = p .some; most = omega arith; bytes = h .room; room = few; fits = omega arith })
-      (h .clean) (length ts) (all-found ts (h .fits .small) (bitsFrom pack 0 L) (h .same)) refl (parents-badEntry (parents t) p) p
+      (held-trees pack L (length ts) (h .clean) (all-found ts (h .fits .small) (bitsFrom pack 0 L) (h .same)) refl) (parents-badEntry (parents t) p) p
       (ap (λ n. counts (L + (2 * n + 1)) (length ts + 1)) (sym n)) (ap (appended pack L) (sym (string-parents t))) (omega arith))
 
   longer-is : length (strings ts) + (2 * nodes t + 1) ≡ length (strings (ts ++ t ∷ []))

@@ -16,7 +16,7 @@ use Rattle.meaning.specs.Bytes.{bitsFrom, bytesFor, leftover, packed}
 use Rattle.meaning.specs.Scan.{many, place}
 use Rattle.meaning.specs.Packs.{starts, sizes}
 use Rattle.meaning.specs.Answers.{Row, _at_when_, Outcome, counts, refusedWith, cameTo, settle, written, tooShort}
-use Rattle.meaning.specs.Cases.{Call, string-of-parents, parents-of-string, image-of-parents, parents-of-image, check-image, ask, list, split, join, does}
+use Rattle.meaning.specs.Cases.{string-of-parents, parents-of-string, image-of-parents, parents-of-image, check-image, ask, list, split, join, does}
 use Rattle.meaning.specs.Calls.{wrongCount, stringOfParents, parentsOfString, imageOfParents, checkRows, checkImage, parentsOfImage, askImage, listImage, splitPack, joinPack}
 use Rattle.theory.proofs.Packing.{bits-length, read-packed}
 use Rattle.theory.proofs.Packs.{found-is}
@@ -26,6 +26,7 @@ use Rattle.strings.proofs.Promises as Strings
 use Rattle.packs.specs.Promises.{FitPack}
 use Rattle.packs.proofs.Promises as Packs
 use Rattle.image.proofs.Promises as Images
+use Rattle.unseal.proofs.Promises as Unsealing
 use Rattle.questions.proofs.Promises as Questions
 use Rattle.listing.proofs.Promises as Listings
 use Rattle.parlaqen.specs.Promises as P
@@ -193,10 +194,10 @@ kept = record {
   written-then-read = Strings.written-then-read;
   string-accepted = Strings.string-accepted-exactly;
   read-then-written = Strings.read-then-written;
-  sealed-then-read = Images.sealed-then-read;
+  sealed-then-read = Unsealing.sealed-then-read;
   image-accepted = Images.image-accepted-exactly;
-  accepted-is-sealed = Images.accepted-is-sealed;
-  one-image-per-tree = Images.one-image-per-tree;
+  accepted-is-sealed = Unsealing.accepted-is-sealed;
+  one-image-per-tree = Unsealing.one-image-per-tree;
   asked-of-tree = Questions.asked-of-tree;
   listed-of-tree = Listings.listed-of-tree;
   too-deep-is-named = Listings.too-deep-is-named;

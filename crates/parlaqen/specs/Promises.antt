@@ -27,6 +27,7 @@ use Rattle.strings.specs.Promises as Strings
 use Rattle.packs.specs.Promises as Packs
 use Rattle.packs.specs.Promises.{FitPack}
 use Rattle.image.specs.Promises as Images
+use Rattle.unseal.specs.Promises as Unsealing
 use Rattle.questions.specs.Promises as Questions
 use Rattle.listing.specs.Promises as Listings
 
@@ -105,11 +106,11 @@ pub record Promises : Type 1 where
   pub string-accepted : Strings.StringAcceptedExactly
   pub read-then-written : Strings.ReadThenWritten
   -- and from its image
-  pub sealed-then-read : Images.SealedThenRead
+  pub sealed-then-read : Unsealing.SealedThenRead
   -- an image is accepted exactly if some tree gives it; two trees never give one image
   pub image-accepted : Images.ImageAcceptedExactly
-  pub accepted-is-sealed : Images.AcceptedIsSealed
-  pub one-image-per-tree : Images.OneImagePerTree
+  pub accepted-is-sealed : Unsealing.AcceptedIsSealed
+  pub one-image-per-tree : Unsealing.OneImagePerTree
   -- each navigation answer is the one the tree itself gives
   pub asked-of-tree : Questions.AskedOfTree
   -- and so is the listing

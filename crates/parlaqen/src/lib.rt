@@ -29,7 +29,7 @@ pub extern "C" fn plq_image_of_parents(parents: &[u32], image: &mut [u8]) -> Ans
 pub extern "C" fn plq_parents_of_image(image: &[u8], parents: &mut [u32]) -> Answer
     ensures { λ r. ⌜ cameTo r (now (parents .exit)) ≡ parentsOfImage (now (image .entry)) (now (parents .entry)) ⌝ }
 {
-    image::parents_of_image(image, parents)
+    unseal::parents_of_image(image, parents)
 }
 
 #[no_mangle]

@@ -16,7 +16,7 @@ const STEPS: [u32; 8] = [0, 0, 0, 0, 1, 0, 2, 3];
 
 // T has parents 0 1 1 1 2 2 4.
 fn seal_t(image: &mut [u8]) {
-    seal::image_of_parents(&[0, 1, 1, 1, 2, 2, 4], image);
+    parlaqen::plq_image_of_parents(&[0, 1, 1, 1, 2, 2, 4], image);
 }
 
 // A lent list, or a part of one, as it is now.
@@ -28,7 +28,7 @@ fn shown(name: &[u8], what: &[u8], list: &[u32]) {
 // Questions to an image: what the call came to, and the lent list after it.
 fn ask_in(name: &[u8], what: &[u8], image: &[u8], asked: &[i32], answers: &mut [u32]) {
     show::about(name, what);
-    show::answered(questions::ask(image, asked, answers));
+    show::answered(parlaqen::plq_ask(image, asked, answers));
     shown(name, what, answers);
 }
 
@@ -86,7 +86,7 @@ fn node_of(name: &[u8], image: &[u8], node: i32) {
     put_kinds(&mut asked, node);
     put_arguments(&mut asked, node);
     show::about(name, b"asked");
-    show::answered(questions::ask(image, &asked, &mut answers));
+    show::answered(parlaqen::plq_ask(image, &asked, &mut answers));
     shown(name, b"kinds", &answers[0..10]);
     shown(name, b"children", &answers[10..18]);
     shown(name, b"siblings", &answers[18..27]);
@@ -227,7 +227,7 @@ fn seal_no_tree(image: &mut [u8])
 // A listing: what the call came to, and the lent list after it.
 fn list_in(name: &[u8], image: &[u8], node: u32, pairs: &mut [u32]) {
     show::about(name, b"listed");
-    show::answered(listing::list(image, node, pairs));
+    show::answered(parlaqen::plq_list(image, node, pairs));
     shown(name, b"pairs", pairs);
 }
 
@@ -324,7 +324,7 @@ fn seal_branches(image: &mut [u8], nodes: usize, branches: usize, both: usize)
 {
     let mut parents = [0u32; 256];
     put_branches(&mut parents, branches, both);
-    seal::image_of_parents(&parents[0..nodes], image);
+    parlaqen::plq_image_of_parents(&parents[0..nodes], image);
 }
 
 // The longest path that is listed.
@@ -365,7 +365,7 @@ fn nines(list: &[u32]) -> u32 {
 // A listing too long to be shown: how many 9s there are after it, and the sums of the whole list.
 fn list_sums(name: &[u8], image: &[u8], node: u32, pairs: &mut [u32]) {
     show::about(name, b"listed");
-    show::answered(listing::list(image, node, pairs));
+    show::answered(parlaqen::plq_list(image, node, pairs));
     shown(name, b"nines", &[nines(pairs)]);
     let sums = after_list(Sums { s: 0, t: 0 }, pairs);
     shown(name, b"totals", &[sums.s, sums.t]);
@@ -455,7 +455,7 @@ fn seal_mixed(image: &mut [u8]) {
     let mut parents = [0u32; 5000];
     put_mixed(&mut parents);
     show::about(b"mixed", b"sealed");
-    show::answered(seal::image_of_parents(&parents, image));
+    show::answered(parlaqen::plq_image_of_parents(&parents, image));
 }
 
 // Node 2710 has children 3496 to 4501.
@@ -487,7 +487,7 @@ fn after_node(sums: Sums, image: &[u8], node: i32) -> Sums {
     let mut answers = [9u32; 27];
     put_kinds(&mut asked, node);
     put_arguments(&mut asked, node);
-    questions::ask(image, &asked, &mut answers);
+    parlaqen::plq_ask(image, &asked, &mut answers);
     after_list(sums, &answers)
 }
 

@@ -20,7 +20,7 @@ use Rattle.image.specs.declared.Checked.{Checked}
 use Rattle.image.specs.declared.Checked.the-variants.{Sound, Refused}
 use Rattle.image.specs.Checked.{checked}
 use Rattle.image.proofs.Finding.{comesTo, rows-checked, sound-known}
-use Rattle.questions.proofs.Turns.{questions-count}
+use Rattle.allowing.proofs.Turns.{questions-count}
 
 -- ---- the size of the list
 

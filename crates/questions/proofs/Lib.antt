@@ -1,5 +1,2 @@
-pub mod Signs
-pub mod Allowing
-pub mod Turns
 pub mod Asking
 pub mod Promises

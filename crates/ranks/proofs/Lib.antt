@@ -1,3 +1,1 @@
-pub mod Reaching
-pub mod Blocks
 pub mod Strings

@@ -1,16 +1,17 @@
--- The samples of a string: found one by one as its ones are counted, and zeros after the last.
+-- The samples of a string: each is the position of one number 64 s + 1, found by the ones before each word, and zeros after the last.
 use mathlib.Core.Path.{_≡_, refl, sym, ap, ap₂, _∙_}
 use mathlib.Core.List.{List, [], _∷_}
 use Prim.Native.Nat.{ℕ, zero, suc, _+_, _-_, _*_, _/_, _%_, _≤_, _<_}
 use native.Mathlib.Decide.{decLt}
 use native.Mathlib.Numerals.{add-one}
 use native.Mathlib.Omega.{arith}
-use lib.ListN.{length, getD, take, List·getD-eq-default}
+use lib.ListN.{length, getD, set, take, List·getD-eq-default}
+use lib.Seq.{getD-set-same, getD-set-other}
 use Rattle.meaning.specs.Strings.{Bit, O, I, ones}
 use Rattle.meaning.specs.Bytes.{value, bitAt, bitsFrom}
 use Rattle.meaning.specs.Image.{samples, stringIn}
 use Rattle.theory.specs.Rank.{position}
-use Rattle.theory.specs.Layout.{bitPlace, wordAt, sampleWord}
+use Rattle.theory.specs.Layout.{bitPlace, samplePlace, wordAt, sampleWord}
 use Rattle.theory.specs.Stages.{blocksOfSamples, Sampled}
 use Rattle.theory.proofs.Bits.{I≢O}
 use Rattle.theory.proofs.Navigate.{position-zero}
@@ -18,8 +19,8 @@ use Rattle.theory.proofs.Packing.{bits-length, bits-at}
 use Rattle.theory.proofs.Payloads.{length-samples, sample-at}
 use Rattle.theory.proofs.TreeImages.{length-stringIn}
 use Rattle.counts.specs.Parts.{onesTo}
-use Rattle.samples.specs.Samples.{sampleIn, SampledHere, SampledWithin, PieceSampled, RestZero}
-use Rattle.bits.proofs.Runs.{bits-ones-le, bits-next, bits-mono, bits-take, ones-after}
+use Rattle.samples.specs.Samples.{sampleIn, SampledHere, SampledWithin, PieceSampled, NamesOne, WordCounts, CountsBefore, sumTo, RestZero}
+use Rattle.bits.proofs.Runs.{bits-ones-le, no-bits, bits-next, bits-mono, bits-take, ones-after}
 use Rattle.counts.proofs.Ones.{onesTo-take, onesTo-next, onesTo-mono, onesTo-block, string-at}
 
 -- ---- one sample
@@ -67,86 +68,169 @@ module _ (bytes : List ℕ) (at : ℕ) where
     ]
   ]
 
--- n bits, few enough for one sample, which i bits and k ones come before: the sample is number s
-module _ (bytes : List ℕ) (from at n i k more s : ℕ) (few : n ≤ 64) (is : more ≡ ones (bitsFrom bytes (8 * at) n)) (next : s ≡ (k + 63) / 64) where
-  pub piece-none : k + more ≤ 64 * s → PieceSampled bytes from at n i k
-  piece-none h p l e d = absurd (omega (arith, one-more bytes at p e, bits-mono bytes (8 * at) (p + 1) n (omega arith)))
+-- one number nth of n bits that i bits come before
+module _ (bytes : List ℕ) (at n i nth place : ℕ) where
+  pub named : i < place → bitAt bytes (8 * at + (place - i - 1)) ≡ I → ones (bitsFrom bytes (8 * at) (place - i - 1)) + 1 ≡ nth → NamesOne bytes at n i nth place
+  named h e c q l f d =
+      let g : place - i - 1 ≡ q = same-one bytes at (place - i - 1) q e f (omega arith) in
+      omega arith
 
-  piece-right : (p : ℕ) → bitAt bytes (8 * at + p) ≡ I → k + ones (bitsFrom bytes (8 * at) p) ≡ 64 * s → sampleIn bytes from s ≡ i + p + 1
-      → PieceSampled bytes from at n i k
-  piece-right p e c w q l f d =
-      let most = bits-ones-le bytes (8 * at) n in
-      let there = one-more bytes at q f in
-      let inside = bits-mono bytes (8 * at) (q + 1) n (omega arith) in
-      let z = k + ones (bitsFrom bytes (8 * at) q) in
-      let which : z / 64 ≡ s = omega arith in
-      let g : p ≡ q = same-one bytes at p q e f (omega arith) in
-      ap (sampleIn bytes from) which ∙ w ∙ ap (λ x. i + x + 1) g
+  module _ (some : 1 ≤ nth) (few : nth ≤ ones (bitsFrom bytes (8 * at) n)) (all : NamesOne bytes at n i nth place) where
+    there : (p : ℕ) × (bitAt bytes (8 * at + p) ≡ I) × (ones (bitsFrom bytes (8 * at) p) + 1 ≡ nth) × (place ≡ i + p + 1) × (p < n)
+    there =
+        let o = one-there (bitsFrom bytes (8 * at) n) (nth - 1) (omega arith) in
+        let p = o .0 in
+        let l : p < n = omega (arith, o .1, bits-length bytes (8 * at) n) in
+        let e : bitAt bytes (8 * at + p) ≡ I = sym (bits-at bytes (8 * at) n p l) ∙ o .2 in
+        let c : ones (bitsFrom bytes (8 * at) p) + 1 ≡ nth = omega (arith, o .3, ap (λ l. ones l) (bits-take bytes (8 * at) p n (omega arith))) in
+        (p, e, c, all p l e c, l)
 
-  -- the one whose sample it is
-  piece-one : 64 * s < k + more → PieceSampled bytes from at n i k
-      → (p : ℕ) × (bitAt bytes (8 * at + p) ≡ I) × (k + ones (bitsFrom bytes (8 * at) p) ≡ 64 * s) × (sampleIn bytes from s ≡ i + p + 1) × (p < n)
-  piece-one h all =
-      let o = one-there (bitsFrom bytes (8 * at) n) (64 * s - k) (omega arith) in
-      let p = o .0 in
-      let l : p < n = omega (arith, o .1, bits-length bytes (8 * at) n) in
-      let e : bitAt bytes (8 * at + p) ≡ I = sym (bits-at bytes (8 * at) n p l) ∙ o .2 in
-      let c : k + ones (bitsFrom bytes (8 * at) p) ≡ 64 * s = omega (arith, o .3, ap (λ l. ones l) (bits-take bytes (8 * at) p n (omega arith))) in
-      (p, e, c, ap (sampleIn bytes from) (let f : s ≡ (k + ones (bitsFrom bytes (8 * at) p)) / 64 = omega arith in f) ∙ all p l e (omega arith), l)
+    -- what a right sample tells: it lies among the bits, at a one that is number nth
+    pub named-inside : (i < place) × (place ≤ i + n)
+    named-inside = let o = there in (omega (arith, o .3), omega (arith, o .3, o .4))
 
-  module _ (place : ℕ) (read : place ≡ sampleIn bytes from s) (some : 64 * s < k + more) where
-    -- what a right sample tells: it lies in the piece, at a one that 64 s others come before
-    pub told : PieceSampled bytes from at n i k → (i < place) × (place ≤ i + n) × (bitAt bytes (8 * at + (place - i - 1)) ≡ I)
-        × (k + ones (bitsFrom bytes (8 * at) (place - i - 1)) ≡ 64 * s)
-    told all =
-        let o = piece-one some all in
+    pub named-one : (bitAt bytes (8 * at + (place - i - 1)) ≡ I) × (ones (bitsFrom bytes (8 * at) (place - i - 1)) + 1 ≡ nth)
+    named-one =
+        let o = there in
         let e : o .0 ≡ place - i - 1 = omega (arith, o .3) in
-        (omega (arith, o .3), omega (arith, o .3, o .4), ap (λ p. bitAt bytes (8 * at + p)) (sym e) ∙ o .1, ap (λ p. k + ones (bitsFrom bytes (8 * at) p)) (sym e) ∙ o .2)
+        (ap (λ p. bitAt bytes (8 * at + p)) (sym e) ∙ o .1, ap (λ p. ones (bitsFrom bytes (8 * at) p) + 1) (sym e) ∙ o .2)
 
-    told-right : i < place → bitAt bytes (8 * at + (place - i - 1)) ≡ I → k + ones (bitsFrom bytes (8 * at) (place - i - 1)) ≡ 64 * s → PieceSampled bytes from at n i k
-    told-right h e c = piece-right (place - i - 1) e c (sym read ∙ (let f : place ≡ i + (place - i - 1) + 1 = omega arith in f))
+-- bit o in its word of eight bytes: t ones before the word, and r from its beginning up to the bit, if that is one
+module _ (bytes : List ℕ) (at o t r : ℕ) (before : t ≡ ones (bitsFrom bytes (8 * at) (64 * (o / 64))))
+    (count : r ≡ value (bitAt bytes (8 * (at + 8 * (o / 64)) + o % 64)) * ones (bitsFrom bytes (8 * (at + 8 * (o / 64))) (o % 64 + 1))) where
+  abbrev word : ℕ
+  word = at + 8 * (o / 64)
 
-    -- the ones up to it, if it is one, are 64 s + 1 with those before the piece
-    module _ (r : ℕ) (inside : i < place) (count : r ≡ value (bitAt bytes (8 * at + (place - i - 1))) * ones (bitsFrom bytes (8 * at) (place - i - 1 + 1))) where
-      pub counted-right : k + r ≡ 64 * s + 1 → PieceSampled bytes from at n i k
-      unfolding value
-      counted-right e = go (bitAt bytes (8 * at + (place - i - 1))) refl
-        where
-          go : (x : Bit) → bitAt bytes (8 * at + (place - i - 1)) ≡ x → PieceSampled bytes from at n i k
-          go O f = absurd (omega (arith, ap (λ x. value x * ones (bitsFrom bytes (8 * at) (place - i - 1 + 1))) f))
-          go I f =
-              told-right inside f
-              (omega (arith, ap (λ x. value x * ones (bitsFrom bytes (8 * at) (place - i - 1 + 1))) f, one-more bytes at (place - i - 1) f))
+  same-bit : bitAt bytes (8 * at + o) ≡ bitAt bytes (8 * word + o % 64)
+  same-bit = ap (bitAt bytes) (let e : 8 * at + o ≡ 8 * (at + 8 * (o / 64)) + o % 64 = omega arith in e)
 
-      pub right-counted : PieceSampled bytes from at n i k → k + r ≡ 64 * s + 1
-      unfolding value
-      right-counted all =
-          let o = told all in
-          omega (arith, o .3, ap (λ x. value x * ones (bitsFrom bytes (8 * at) (place - i - 1 + 1))) (o .2), one-more bytes at (place - i - 1) (o .2))
+  up-to : (x : Bit) → bitAt bytes (8 * at + o) ≡ x → r ≡ value x * ones (bitsFrom bytes (8 * word) (o % 64 + 1))
+  up-to x e = count ∙ ap (λ y. value y * ones (bitsFrom bytes (8 * word) (o % 64 + 1))) (sym same-bit ∙ e)
+
+  pub one-counted : bitAt bytes (8 * at + o) ≡ I → (1 ≤ r) × (t + r ≡ ones (bitsFrom bytes (8 * at) o) + 1)
+  unfolding value
+  one-counted e =
+      let u = up-to I e in
+      let here = one-more bytes word (o % 64) (sym same-bit ∙ e) in
+      let after = ones-after bytes at (8 * (o / 64)) (o % 64 + 1) in
+      let front = ap (λ m. ones (bitsFrom bytes (8 * at) m)) (let f : 8 * (8 * (o / 64)) ≡ 64 * (o / 64) = omega arith in f) in
+      let whole = ap (λ m. ones (bitsFrom bytes (8 * at) m)) (let f : 8 * (8 * (o / 64)) + (o % 64 + 1) ≡ o + 1 = omega arith in f) in
+      let last = one-more bytes at o e in
+      (omega arith, omega arith)
+
+  pub counted-one : (r ≡ 0 → ⊥) → bitAt bytes (8 * at + o) ≡ I
+  unfolding value
+  counted-one h = go (bitAt bytes (8 * at + o)) refl
+    where
+      go : (x : Bit) → bitAt bytes (8 * at + o) ≡ x → bitAt bytes (8 * at + o) ≡ I
+      go O f = absurd (h (let u = up-to O f in omega arith))
+      go I f = f
+
+-- ---- the samples of a piece, one after another
+
+-- sample number s, of a one among n bits, which i bits and k ones come before
+abbrev pub NumberSampled : List ℕ → ℕ → ℕ → ℕ → ℕ → ℕ → ℕ → Type 0
+NumberSampled bytes from at n i k s =
+    (p : ℕ) → p < n → bitAt bytes (8 * at + p) ≡ I → k + ones (bitsFrom bytes (8 * at) p) ≡ 64 * s → sampleIn bytes from s ≡ i + p + 1
+
+module _ (bytes : List ℕ) (from at n i k : ℕ) where
+  pub number-named : (s : ℕ) → k ≤ 64 * s → NamesOne bytes at n i (64 * s + 1 - k) (sampleIn bytes from s) → NumberSampled bytes from at n i k s
+  number-named s h all p l e c = all p l e (omega arith)
+
+  pub piece-named : (s : ℕ) → k ≤ 64 * s → PieceSampled bytes from at n i k → NamesOne bytes at n i (64 * s + 1 - k) (sampleIn bytes from s)
+  piece-named s h all p l e c =
+      let z = k + ones (bitsFrom bytes (8 * at) p) in
+      let which : s ≡ z / 64 = omega arith in
+      ap (sampleIn bytes from) which ∙ all p l e (omega arith)
+
+  -- the samples before the piece
+  pub none-before : (s : ℕ) → s < (k + 63) / 64 → NumberSampled bytes from at n i k s
+  none-before s h p l e c = absurd (omega arith)
+
+  pub numbers-piece : (s end : ℕ) → end ≡ k + ones (bitsFrom bytes (8 * at) n) → end ≤ 64 * s → ((q : ℕ) → q < s → NumberSampled bytes from at n i k q)
+      → PieceSampled bytes from at n i k
+  numbers-piece s end is h all p l e d =
+      let there = one-more bytes at p e in
+      let inside = bits-mono bytes (8 * at) (p + 1) n (omega arith) in
+      let z = k + ones (bitsFrom bytes (8 * at) p) in
+      all (z / 64) (omega arith) p l e (omega arith)
+
+-- where the next one stands
+module _ (from s : ℕ) where
+  column : samplePlace from s % 512 ≡ 4 * (s % 126)
+  column = go (from + s / 126) (s % 126) (omega arith)
+    where
+      go : (x r : ℕ) → r < 126 → (512 * x + 4 * r) % 512 ≡ 4 * r
+      go x r h = omega arith
+
+  pub next-block : samplePlace from s % 512 ≡ 500 → samplePlace from s + 12 ≡ samplePlace from (s + 1)
+  next-block e =
+      let r : s % 126 ≡ 125 = omega (arith, column) in
+      let d : (s + 1) / 126 ≡ s / 126 + 1 = omega arith in
+      let z : (s + 1) % 126 ≡ 0 = omega arith in
+      omega arith
+
+  pub next-column : (samplePlace from s % 512 ≡ 500 → ⊥) → samplePlace from s + 4 ≡ samplePlace from (s + 1)
+  next-column e =
+      let r : s % 126 < 125 = lt-of-ne (λ f. e (column ∙ (let g : 4 * (s % 126) ≡ 500 = omega arith in g))) in
+      let d : (s + 1) / 126 ≡ s / 126 = omega arith in
+      let z : (s + 1) % 126 ≡ s % 126 + 1 = omega arith in
+      omega arith
+    where
+      lt-of-ne : (s % 126 ≡ 125 → ⊥) → s % 126 < 125
+      lt-of-ne f = elim (decLt (s % 126) 125) [
+        | yes h ↦ h
+        | no h ↦ absurd (f (omega arith))
+      ]
+
+-- ---- the ones before each word
+
+-- a table filled from its front
+module _ (f : ℕ → ℕ) (table : List ℕ) (w v : ℕ) where
+  pub filled-more : w < length table → v ≡ f w → ((q : ℕ) → q < w → getD table q 0 ≡ f q) → (q : ℕ) → q < w + 1 → getD (set table w v) q 0 ≡ f q
+  filled-more h e all q l = elim (decLt q w) [
+    | yes g ↦ getD-set-other table w q v 0 (λ d. absurd (omega arith)) ∙ all q g
+    | no g ↦
+        let d : q ≡ w = omega arith in
+        ap (λ x. getD (set table w v) x 0) d ∙ getD-set-same table w v 0 h ∙ e ∙ ap f (sym d)
+  ]
+
+  pub kept-more : ((q : ℕ) → w ≤ q → getD table q 0 ≡ f q) → (q : ℕ) → w + 1 ≤ q → getD (set table w v) q 0 ≡ f q
+  kept-more all q l = getD-set-other table w q v 0 (λ d. absurd (omega arith)) ∙ all q (omega arith)
+
+pub sum-next : (xs : List ℕ) (w : ℕ) → sumTo xs (w + 1) ≡ sumTo xs w + getD xs w 0
+unfolding sumTo
+sum-next xs w = ap (sumTo xs) (add-one w)
+
+pub sum-none : (xs : List ℕ) → 0 ≡ sumTo xs 0
+unfolding sumTo
+sum-none xs = refl
+
+module _ (bytes : List ℕ) (at : ℕ) (table : List ℕ) (counts : WordCounts bytes at table) where
+  sum-ones : (w : ℕ) → w ≤ 63 → sumTo table w ≡ ones (bitsFrom bytes (8 * at) (64 * w))
+  unfolding sumTo
+  sum-ones zero h = no-bits bytes (8 * at)
+  sum-ones (suc w) h =
+      let before = sum-ones w (omega arith) in
+      let here = counts w (omega arith) in
+      let after = ones-after bytes at (8 * w) 64 in
+      let front = ap (λ m. ones (bitsFrom bytes (8 * at) m)) (let f : 8 * (8 * w) ≡ 64 * w = omega arith in f) in
+      let whole = ap (λ m. ones (bitsFrom bytes (8 * at) m)) (let f : 8 * (8 * w) + 64 ≡ 64 * suc w = omega arith in f) in
+      omega arith
+
+  pub counts-before : (sums : List ℕ) → ((w : ℕ) → w < 63 → getD sums w 0 ≡ sumTo table w) → CountsBefore bytes at sums
+  counts-before sums e w h = e w h ∙ sum-ones w (omega arith)
+
+  pub counts-few : (w : ℕ) → w < 63 → getD table w 0 ≤ 64
+  counts-few w h = omega (arith, counts w h, bits-ones-le bytes (8 * (at + 8 * w)) 64)
+
+-- ---- a block
 
 -- the same said of a place, a count and a position that are equal
 moved : (bytes : List ℕ) (from a z x b y w : ℕ) → a ≡ b → z ≡ y → x ≡ w
     → (bitAt bytes a ≡ I → SampledHere bytes from z x) → bitAt bytes b ≡ I → SampledHere bytes from y w
 moved bytes from a z x b y w e f g s one d =
     ap (sampleIn bytes from) (let h : y / 64 ≡ z / 64 = omega arith in h) ∙ s (ap (bitAt bytes) e ∙ one) (omega arith) ∙ g
-
--- w bytes behind, n bits more
-module _ (bytes : List ℕ) (from at i k w c : ℕ) (e : c ≡ k + ones (bitsFrom bytes (8 * at) (8 * w))) where
-  pub piece-join : (n m : ℕ) → 8 * w + n ≡ m → PieceSampled bytes from at (8 * w) i k → PieceSampled bytes from (at + w) n (i + 8 * w) c → PieceSampled bytes from at m i k
-  piece-join n m f before after p l = elim (decLt p (8 * w)) [
-    | yes h ↦ before p h
-    | no h ↦
-        let q = p - 8 * w in
-        let g : 8 * w + q ≡ p = omega arith in
-        moved bytes from (8 * (at + w) + q) (c + ones (bitsFrom bytes (8 * (at + w)) q)) (i + 8 * w + q + 1) (8 * at + p) (k + ones (bitsFrom bytes (8 * at) p)) (i + p + 1)
-        (omega arith) (omega (arith, ones-after bytes at w q, ap (λ r. ones (bitsFrom bytes (8 * at) r)) g)) (omega arith) (after q (omega arith))
-  ]
-
-  pub piece-part : (n m : ℕ) → 8 * w + n ≤ m → PieceSampled bytes from at m i k → PieceSampled bytes from (at + w) n (i + 8 * w) c
-  piece-part n m h all q l =
-      let p = 8 * w + q in
-      moved bytes from (8 * at + p) (k + ones (bitsFrom bytes (8 * at) p)) (i + p + 1) (8 * (at + w) + q) (c + ones (bitsFrom bytes (8 * (at + w)) q)) (i + 8 * w + q + 1)
-      (omega arith) (omega (arith, ones-after bytes at w q)) (omega arith) (all p (omega arith))
 
 -- the bits of a block
 module _ (bytes : List ℕ) (from first j n k : ℕ) (most : n ≤ 4000) (e : k ≡ onesTo bytes first (4000 * j)) where

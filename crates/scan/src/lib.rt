@@ -27,7 +27,7 @@ fn end_of_byte(p: usize, n: usize) -> usize
 }
 
 // A table of sixteen rows of sixteen: how far the pending nodes fall at most, on the way through a byte; its row is that of its first four bits, its place there that of its last four.
-const FALLS: [[u8; 16]; 16] = [
+pub const FALLS: [[u8; 16]; 16] = [
     [8, 7, 6, 6, 6, 5, 5, 5, 6, 5, 4, 4, 4, 4, 4, 4],
     [6, 5, 4, 4, 4, 3, 3, 3, 4, 3, 3, 3, 3, 3, 3, 3],
     [6, 5, 4, 4, 4, 3, 3, 3, 4, 3, 2, 2, 2, 2, 2, 2],
@@ -180,11 +180,13 @@ fn inside_end(b: &[u8], n: usize, from: usize, falls: &[[u8; 16]; 16]) -> TreeEn
     end
 }
 
+// Where the tree that starts after `at` bits ends, by the table of falls: a caller that reads many trees lends one copy of it to all.
 // A tree begins with 10: the super-root and its one child.
-pub fn tree_end(b: &[u8], n: usize, at: usize) -> TreeEnd
+pub fn tree_end_by(b: &[u8], n: usize, at: usize, falls: &[[u8; 16]; 16]) -> TreeEnd
     requires { ⌜ at ≤ n ⌝ }
     requires { ⌜ n ≤ 131071 ⌝ }
     requires { do ⌜ n ≤ 8 * (← ⟦b.len()⟧) ⌝ }
+    requires { ⌜ Falls (now falls) ⌝ }
     ensures { λ r. ⌜ endOf r ≡ treeEnd (bitsFrom (now (b .entry)) at (n - at)) at ⌝ }
 {
     if at == n {
@@ -199,6 +201,16 @@ pub fn tree_end(b: &[u8], n: usize, at: usize) -> TreeEnd
     if bit_at(b, at + 1) != 0 {
         return TreeEnd::Refused(at + 2);
     }
+    inside_end(b, n, at + 2, falls)
+}
+
+// The same, with a copy of the table of its own.
+pub fn tree_end(b: &[u8], n: usize, at: usize) -> TreeEnd
+    requires { ⌜ at ≤ n ⌝ }
+    requires { ⌜ n ≤ 131071 ⌝ }
+    requires { do ⌜ n ≤ 8 * (← ⟦b.len()⟧) ⌝ }
+    ensures { λ r. ⌜ endOf r ≡ treeEnd (bitsFrom (now (b .entry)) at (n - at)) at ⌝ }
+{
     let falls = FALLS;
-    inside_end(b, n, at + 2, &falls)
+    tree_end_by(b, n, at, &falls)
 }

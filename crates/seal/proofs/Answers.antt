@@ -12,8 +12,9 @@ use Rattle.meaning.specs.Answers.{refusedWith, counts, cameTo, written}
 use Rattle.meaning.specs.Calls.{imageOfParents}
 use Rattle.theory.proofs.Settled.{below, beyond, between, settle-here, settle-on, settle-none}
 use Rattle.theory.proofs.Images.{parts-size}
-use Rattle.seal.specs.Passes.{marksIn, blocksFor}
-use Rattle.seal.proofs.Preparing.{blocks-total}
+use Rattle.ends.specs.Listed.{marksIn}
+use Rattle.marks.specs.Passes.{blocksFor}
+use Rattle.payloads.proofs.Preparing.{blocks-total}
 
 module _ (ps out : List ℕ) where
   pub image-none : length ps < 1 → cameTo (refusedWith 2 0) out ≡ imageOfParents ps out

@@ -1,24 +1,29 @@
 -- Payloads filled as they must be, and then sealed, are the image.
-use mathlib.Core.Path.{_≡_, sym, ap, _∙_, subst}
+use mathlib.Core.Path.{_≡_, sym, ap, ap₂, _∙_, subst}
 use mathlib.Core.List.{List, [], _∷_, _++_}
-use Prim.Native.Nat.{ℕ, suc, _+_, _*_, _≤_, _<_}
+use Prim.Native.Nat.{ℕ, suc, _+_, _-_, _*_, _≤_, _<_}
 use native.Mathlib.Omega.{arith}
-use lib.ListN.{length, getD, drop, List·getD-eq-default}
-use lib.Seq.{ext-getD}
-use Rattle.meaning.specs.Strings.{Bit, O}
-use Rattle.meaning.specs.Bytes.{bitAt}
+use lib.ListN.{length, getD, drop, length-drop, List·getD-eq-default}
+use lib.Seq.{ext-getD, getD-drop}
+use Rattle.meaning.specs.Answers.{written}
+use Rattle.meaning.specs.Parents.{IsParents}
+use Rattle.meaning.specs.Strings.{Bit, O, R1, R0, stringOf}
 use Rattle.meaning.specs.Blocks.{wordBytes, words, sums, sumStart, padded, block, sealed}
-use Rattle.meaning.specs.Image.{stringBlocks, samples, sampleBlocks, stringIn, imageOfParts}
-use Rattle.theory.specs.Layout.{AreBytes, wordAt, bitPlace, samplePlace, stringWord, sampleWord, startR0, startS1, startS0, total}
+use Rattle.meaning.specs.Image.{stringBlocks, samples, sampleBlocks, imageOfParts, imageOfString}
+use Rattle.theory.specs.Layout.{AreBytes, wordAt, samplePlace, stringWord, sampleWord, startR0, startS1, startS0, total}
 use Rattle.theory.specs.Stages.{Kept}
 use Rattle.theory.proofs.Digits.{append-bytes, words-bytes, take-bytes, drop-bytes, wordAt-take, wordAt-drop}
 use Rattle.theory.proofs.Sealing.{length-sealed, sealed-word, sealed-checks, padded-bytes}
-use Rattle.theory.proofs.Images.{unlaid}
-use Rattle.theory.proofs.TreeImages.{length-stringIn, stringIn-at}
+use Rattle.theory.proofs.Images.{unlaid, parts-size}
 use Rattle.theory.proofs.Stages.{word-is}
 use Rattle.blocks.specs.Sealed.{payloadsIn}
 use Rattle.blocks.proofs.Laws.{length-payloadsIn, payloadsIn-at}
-use Rattle.seal.specs.Filled.{Part, Counts, Filled}
+use Rattle.marks.specs.Passes.{Part, blocksFor}
+use Rattle.payloads.specs.Filled.{Counts, Filled}
+use Rattle.payloads.specs.Passes.{Prepared}
+use Rattle.ends.proofs.Entries.{sizes}
+use Rattle.marks.proofs.Parting.{part-string}
+use Rattle.payloads.proofs.Preparing.{blocks-total}
 
 -- ---- sealed bytes are bytes
 
@@ -44,13 +49,6 @@ word-kept bytes k j w h g =
     ∙ wordAt-take 504 (drop (512 * j) bytes) (4 * w) (omega arith) ∙ wordAt-drop (512 * j) bytes (4 * w)
 
 -- ---- a string's words
-
-pub part-string : (bytes : List ℕ) (from at S : ℕ) (r : List Bit) → Part bytes from (stringBlocks (length r)) at S r → stringIn bytes from 0 (length r) ≡ r
-part-string bytes from at S r p =
-    let l = length-stringIn bytes from 0 (length r) in
-    ext-getD O (stringIn bytes from 0 (length r)) r l
-    (λ i h. let g : i < length r = omega arith in
-    stringIn-at bytes from 0 (length r) i g ∙ ap (λ k. bitAt bytes (bitPlace from k)) (let e : 0 + i ≡ i = omega arith in e) ∙ p .bits i (omega arith))
 
 string-words : (bytes : List ℕ) (from at S : ℕ) (r : List Bit) → AreBytes bytes → 512 * (from + stringBlocks (length r)) ≤ length bytes
     → Part bytes from (stringBlocks (length r)) at S r → Counts bytes from r
@@ -88,3 +86,23 @@ filled-image bytes a b are room la lb f =
       inS0 = λ j w h g. word-kept bytes t (startS0 a b + j) w h g
           ∙ sample-words bytes (startR0 a b) (stringBlocks (length b)) (startS0 a b) (sampleBlocks (samples b)) b (f .parts .second) j w (omega arith) g;
     })
+
+-- ---- the payloads of a parent list
+
+pub prepared-sealed : (old bytes ps : List ℕ) (t : ℕ) → IsParents ps → length ps ≤ 65535 → AreBytes bytes → length bytes ≡ length old → t ≡ blocksFor ps
+    → 512 * t ≤ length old → Prepared old bytes ps
+    → sealed (payloadsIn bytes t) 0 ++ drop (512 * t) bytes ≡ written (imageOfString (stringOf ps)) old
+unfolding imageOfString
+prepared-sealed old bytes ps t are most ab l e room p =
+    let a = R1 (stringOf ps) in
+    let b = R0 (stringOf ps) in
+    let s = sizes ps are in
+    let f : t ≡ total a b = e ∙ blocks-total ps are in
+    let la = s .long1 in
+    let lb = s .long0 in
+    let size = parts-size a b in
+    let same : drop (512 * t) bytes ≡ drop (512 * t) old =
+    ext-getD 0 (drop (512 * t) bytes) (drop (512 * t) old) (length-drop (512 * t) bytes ∙ ap (λ n. n - 512 * t) l ∙ sym (length-drop (512 * t) old))
+    (λ i h. getD-drop (512 * t) bytes i 0 ∙ p .tail (512 * t + i) (omega arith) ∙ sym (getD-drop (512 * t) old i 0)) in
+    ap₂ _++_ (ap (λ k. sealed (payloadsIn bytes k) 0) f ∙ filled-image bytes a b ab (omega arith) (omega arith) (omega arith) (p .filled))
+    (same ∙ ap (λ k. drop k old) (let g : 512 * t ≡ length (imageOfParts a b) = omega arith in g))

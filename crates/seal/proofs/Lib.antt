@@ -1,9 +1,2 @@
-pub mod Lists
 pub mod Filled
-pub mod Walking
-pub mod Placing
-pub mod Parting
-pub mod Running
-pub mod Counting
-pub mod Preparing
 pub mod Answers

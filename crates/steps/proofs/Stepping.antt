@@ -1,5 +1,5 @@
 -- Two strings in step: the ones among the first bits, counted bit by bit or byte by byte.
-use mathlib.Core.Path.{_≡_, sym, ap, _∙_}
+use mathlib.Core.Path.{_≡_, refl, sym, ap, _∙_}
 use mathlib.Core.List.{List, [], _∷_}
 use Prim.Native.Nat.{ℕ, zero, suc, _+_, _-_, _*_, _≤_, _<_}
 use native.Mathlib.Decide.{decLt}
@@ -16,9 +16,9 @@ use Rattle.theory.proofs.Packing.{bits-length}
 use Rattle.theory.proofs.TreeImages.{length-stringIn}
 use Rattle.bits.specs.Both.{both}
 use Rattle.bits.proofs.Values.{is-O, is-I}
-use Rattle.bits.proofs.Runs.{ones-cut, bits-take, ones-after}
+use Rattle.bits.proofs.Runs.{bits-ones-le, ones-cut, bits-take, ones-after, eight-more}
 use Rattle.counts.specs.Parts.{onesTo}
-use Rattle.counts.proofs.Ones.{onesTo-take, onesTo-block, string-at}
+use Rattle.counts.proofs.Ones.{onesTo-take, onesTo-mono, onesTo-block, string-at}
 use Rattle.steps.specs.Steps.{StepAt, StepWithin}
 
 -- ---- in pieces
@@ -35,6 +35,21 @@ shared (O ∷ xs) (O ∷ ys) (suc p) h = omega (arith, shared xs ys p (omega ari
 shared (O ∷ xs) (I ∷ ys) (suc p) h = omega (arith, shared xs ys p (omega arith))
 shared (I ∷ xs) (O ∷ ys) (suc p) h = omega (arith, shared xs ys p (omega arith))
 shared (I ∷ xs) (I ∷ ys) (suc p) h = omega (arith, shared xs ys p (omega arith))
+
+-- sixteen bytes more, counted as two words
+module _ (bytes : List ℕ) (at i front back : ℕ) (f : front ≡ ones (bitsFrom bytes (8 * (at + i)) 64)) (b : back ≡ ones (bitsFrom bytes (8 * (at + i + 8)) 64)) where
+  pub sixteen-more : ones (bitsFrom bytes (8 * at) (8 * i)) + (front + back) ≡ ones (bitsFrom bytes (8 * at) (8 * (i + 16)))
+  sixteen-more =
+      omega (
+        arith,
+        eight-more bytes at i,
+        eight-more bytes at (i + 8),
+        ap (λ a. ones (bitsFrom bytes (8 * a) 64)) (let e : at + (i + 8) ≡ at + i + 8 = omega arith in e),
+        ap (λ m. ones (bitsFrom bytes (8 * at) (8 * m))) (let e : i + 8 + 8 ≡ i + 16 = omega arith in e),
+      )
+
+  pub sixteen-few : front + back ≤ 128
+  sixteen-few = omega (arith, bits-ones-le bytes (8 * (at + i)) 64, bits-ones-le bytes (8 * (at + i + 8)) 64)
 
 module _ (bytes : List ℕ) (at1 at0 k1 k0 : ℕ) where
   pub step-none : StepAt bytes at1 at0 0 k1 k0
@@ -61,6 +76,10 @@ module _ (bytes : List ℕ) (at1 at0 k1 k0 : ℕ) where
         ap (λ l. ones l) (bits-take bytes (8 * at1) p 64 (omega arith)),
         ap (λ l. ones l) (bits-take bytes (8 * at0) p 64 (omega arith)),
       )
+
+  -- n bits, too few for R1 to come to have more
+  pub step-ahead : (n : ℕ) → k1 + n ≤ k0 → StepAt bytes at1 at0 n k1 k0
+  step-ahead n h = step-over n (ones (bitsFrom bytes (8 * at1) n)) refl (omega (arith, bits-ones-le bytes (8 * at1) n))
 
   -- i bytes behind, n bits more
   module _ (i c1 c0 : ℕ) (e1 : c1 ≡ k1 + ones (bitsFrom bytes (8 * at1) (8 * i))) (e0 : c0 ≡ k0 + ones (bitsFrom bytes (8 * at0) (8 * i))) where
@@ -104,6 +123,10 @@ module _ (bytes : List ℕ) (zeros : ℕ) where
     pub block-step : StepWithin bytes zeros (4000 * j) (4000 * j + n) → StepAt bytes (512 * (1 + j) + 4) (512 * (zeros + j) + 4) n k1 k0
     block-step s p h =
         omega (arith, s (4000 * j + p) (omega arith) (omega arith), onesTo-block bytes 1 j p (omega arith), onesTo-block bytes zeros j p (omega arith))
+
+  -- a block behind which R1 has no more than R0 before it
+  pub step-behind : (a b : ℕ) → onesTo bytes 1 b ≤ onesTo bytes zeros a → StepWithin bytes zeros a b
+  step-behind a b e p h l = omega (arith, onesTo-mono bytes 1 p b (omega arith), onesTo-mono bytes zeros a p (omega arith))
 
   module _ (n : ℕ) where
     abbrev r1 : List Bit

@@ -110,11 +110,11 @@ fn word_in_step(b: &[u8], at1: usize, at0: usize, ones1: usize, ones0: usize, mo
 fn words_in_step(b: &[u8], at1: usize, at0: usize, n: usize, ones1: usize, ones0: usize) -> bool
     requires { ⌜ at1 ≤ 39000 ⌝ }
     requires { ⌜ at0 ≤ 39000 ⌝ }
-    requires { ⌜ n ≤ 4000 ⌝ }
-    requires { do ⌜ at1 + 500 ≤ (← ⟦b.len()⟧) ⌝ }
-    requires { do ⌜ at0 + 500 ≤ (← ⟦b.len()⟧) ⌝ }
-    requires { ⌜ ones1 ≤ 65000 ⌝ }
-    requires { ⌜ ones0 ≤ 65000 ⌝ }
+    requires { ⌜ n ≤ 200 ⌝ }
+    requires { do ⌜ at1 + (n + 7) / 8 ≤ (← ⟦b.len()⟧) ⌝ }
+    requires { do ⌜ at0 + (n + 7) / 8 ≤ (← ⟦b.len()⟧) ⌝ }
+    requires { ⌜ ones1 ≤ 69500 ⌝ }
+    requires { ⌜ ones0 ≤ 69500 ⌝ }
     ensures { λ r. ⌜ Says r (StepAt (now (b .entry)) at1 at0 n ones1 ones0) ⌝ }
 {
     let mut before1 = ones1;
@@ -132,6 +132,67 @@ fn words_in_step(b: &[u8], at1: usize, at0: usize, n: usize, ones1: usize, ones0
     bytes_in_step(b, at1 + i, at0 + i, n - 8 * i, before1, before0)
 }
 
+// The same of sixteen bytes, where R1 has `front1` and `back1` ones in their halves, and R0 `front0` in the first.
+fn pair_in_step(
+    b: &[u8],
+    at1: usize,
+    at0: usize,
+    ones1: usize,
+    ones0: usize,
+    front1: usize,
+    back1: usize,
+    front0: usize,
+) -> bool
+    requires { ⌜ at1 ≤ 39000 ⌝ }
+    requires { ⌜ at0 ≤ 39000 ⌝ }
+    requires { do ⌜ at1 + 16 ≤ (← ⟦b.len()⟧) ⌝ }
+    requires { do ⌜ at0 + 16 ≤ (← ⟦b.len()⟧) ⌝ }
+    requires { ⌜ ones1 ≤ 69500 ⌝ }
+    requires { ⌜ ones0 ≤ 69500 ⌝ }
+    requires { ⌜ front1 ≡ ones (bitsFrom (now b) (8 * at1) 64) ⌝ }
+    requires { ⌜ back1 ≡ ones (bitsFrom (now b) (8 * (at1 + 8)) 64) ⌝ }
+    requires { ⌜ front0 ≡ ones (bitsFrom (now b) (8 * at0) 64) ⌝ }
+    ensures { λ r. ⌜ Says r (StepAt (now (b .entry)) at1 at0 128 ones1 ones0) ⌝ }
+{
+    // then no 128 bits make R1 have more, and the test need not wait for their count
+    if ones1 + 128 <= ones0 {
+        return true;
+    }
+    if !word_in_step(b, at1, at0, ones1, ones0, front1) {
+        return false;
+    }
+    word_in_step(b, at1 + 8, at0 + 8, ones1 + front1, ones0 + front0, back1)
+}
+
+// The same of n bits, sixteen bytes at a time: two words that are counted side by side.
+fn pairs_in_step(b: &[u8], at1: usize, at0: usize, n: usize, ones1: usize, ones0: usize) -> bool
+    requires { ⌜ at1 ≤ 38000 ⌝ }
+    requires { ⌜ at0 ≤ 38000 ⌝ }
+    requires { ⌜ n ≤ 4000 ⌝ }
+    requires { do ⌜ at1 + 500 ≤ (← ⟦b.len()⟧) ⌝ }
+    requires { do ⌜ at0 + 500 ≤ (← ⟦b.len()⟧) ⌝ }
+    requires { ⌜ ones1 ≤ 65000 ⌝ }
+    requires { ⌜ ones0 ≤ 65000 ⌝ }
+    ensures { λ r. ⌜ Says r (StepAt (now (b .entry)) at1 at0 n ones1 ones0) ⌝ }
+{
+    let mut before1 = ones1;
+    let mut before0 = ones0;
+    let mut i: usize = 0;
+    while i + 16 <= n / 8 {
+        let front1 = ones_in_word(b, at1 + i) as usize;
+        let back1 = ones_in_word(b, at1 + i + 8) as usize;
+        let front0 = ones_in_word(b, at0 + i) as usize;
+        let back0 = ones_in_word(b, at0 + i + 8) as usize;
+        if !pair_in_step(b, at1 + i, at0 + i, before1, before0, front1, back1, front0) {
+            return false;
+        }
+        before1 += front1 + back1;
+        before0 += front0 + back0;
+        i += 16;
+    }
+    words_in_step(b, at1 + i, at0 + i, n - 8 * i, before1, before0)
+}
+
 // Is R1 in step with R0 in the first n bits of their blocks number j?
 fn block_in_step(b: &[u8], zeros: usize, j: usize, n: usize) -> bool
     requires { ⌜ n ≤ 4000 ⌝ }
@@ -145,7 +206,7 @@ fn block_in_step(b: &[u8], zeros: usize, j: usize, n: usize) -> bool
 {
     let at1 = 512 * (1 + j);
     let at0 = 512 * (zeros + j);
-    words_in_step(
+    pairs_in_step(
         b,
         at1 + 4,
         at0 + 4,
@@ -153,6 +214,24 @@ fn block_in_step(b: &[u8], zeros: usize, j: usize, n: usize) -> bool
         word(b, at1) as usize,
         word(b, at0) as usize,
     )
+}
+
+// The same of a whole block of R1, behind which another comes.
+fn full_block_in_step(b: &[u8], zeros: usize, j: usize) -> bool
+    requires { ⌜ j ≤ 16 ⌝ }
+    requires { ⌜ zeros ≤ 53 ⌝ }
+    requires { do ⌜ 512 * (1 + j + 2) ≤ (← ⟦b.len()⟧) ⌝ }
+    requires { do ⌜ 512 * (zeros + j + 1) ≤ (← ⟦b.len()⟧) ⌝ }
+    requires { ⌜ wordAt (now b) (512 * (1 + j)) ≡ onesTo (now b) 1 (4000 * j) ⌝ }
+    requires { ⌜ wordAt (now b) (512 * (1 + j + 1)) ≡ onesTo (now b) 1 (4000 * j + 4000) ⌝ }
+    requires { ⌜ wordAt (now b) (512 * (zeros + j)) ≡ onesTo (now b) zeros (4000 * j) ⌝ }
+    ensures { λ r. ⌜ Says r (StepWithin (now (b .entry)) zeros (4000 * j) (4000 * j + 4000)) ⌝ }
+{
+    // then R1 has no more behind the block than R0 before it
+    if word(b, 512 * (1 + j + 1)) <= word(b, 512 * (zeros + j)) {
+        return true;
+    }
+    block_in_step(b, zeros, j, 4000)
 }
 
 // Are the runs of the two strings in step? The first bit of R1 is one, and before its last bit R1 never has more ones behind it than R0.
@@ -171,7 +250,7 @@ pub fn in_step(b: &[u8], zeros: usize, n: usize) -> bool
     let last = (n - 1) / 4000;
     let mut j: usize = 0;
     while j < last {
-        if !block_in_step(b, zeros, j, 4000) {
+        if !full_block_in_step(b, zeros, j) {
             return false;
         }
         j += 1;

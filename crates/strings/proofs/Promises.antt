@@ -24,7 +24,7 @@ use Rattle.theory.proofs.Packing.{bits-length, packed-length, packed-leftover, 
 use Rattle.theory.proofs.Packs.{string-length}
 use Rattle.theory.proofs.Promises.{string-back, string-accepted, never-before}
 use Rattle.strings.specs.Promises as P
-use Rattle.strings.proofs.Answers.{string-made, parents-made}
+use Rattle.codec.proofs.Answers.{string-made, parents-made}
 use Rattle.strings.proofs.Codes.{neither-second, not-unequal, none-held, row-held}
 
 -- ---- of a tree

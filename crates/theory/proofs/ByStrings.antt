@@ -24,15 +24,15 @@ use Rattle.theory.proofs.Answers.{lo, degree-is, child-there, child-non
 
 -- ---- a number within bounds
 
-within-there : (low high y : ℕ) → low < y → y ≤ high → within low high y ≡ y
+pub within-there : (low high y : ℕ) → low < y → y ≤ high → within low high y ≡ y
 unfolding within
 within-there low high y g h = ap₂ (λ a b. cond a (cond b y 0) 0) (lt-ltb low y g) (le-leb y high h)
 
-within-low : (low high y : ℕ) → y ≤ low → within low high y ≡ 0
+pub within-low : (low high y : ℕ) → y ≤ low → within low high y ≡ 0
 unfolding within
 within-low low high y h = ap (λ a. cond a (cond (leb y high) y 0) 0) (le-ltb low y h)
 
-within-high : (low high y : ℕ) → high < y → within low high y ≡ 0
+pub within-high : (low high y : ℕ) → high < y → within low high y ≡ 0
 unfolding within
 within-high low high y h = ap (λ b. cond (ltb low y) (cond b y 0) 0) (lt-leb y high h) ∙ both-none (ltb low y)
   where

@@ -150,12 +150,6 @@ wordAt-append xs ys p = omega (arith, at 0, at 1, at 2, at 3, getD-append-add xs
     at : (k : ℕ) → getD (xs ++ ys) (length xs + p + k) 0 ≡ getD ys (p + k) 0
     at k = ap (λ i. getD (xs ++ ys) i 0) (let e : length xs + p + k ≡ length xs + (p + k) = omega arith in e) ∙ getD-append-add xs ys (p + k) 0
 
-pub wordAt-front : (xs ys : List ℕ) (p : ℕ) → p + 3 < length xs → wordAt (xs ++ ys) p ≡ wordAt xs p
-unfolding wordAt
-wordAt-front xs ys p h =
-    let at = List·getD-append xs ys 0 in
-    omega (arith, at p (omega arith), at (p + 1) (omega arith), at (p + 2) (omega arith), at (p + 3) (omega arith))
-
 pub wordAt-take : (n : ℕ) (xs : List ℕ) (p : ℕ) → p + 3 < n → wordAt (take n xs) p ≡ wordAt xs p
 unfolding wordAt
 wordAt-take n xs p h =

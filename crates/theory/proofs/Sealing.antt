@@ -1,6 +1,5 @@
 -- Sealed payloads: where their bytes stand, that their sums always check, and that bytes whose sums check are sealed payloads.
-use mathlib.Core.Path.{_≡_, refl, sym, ap, ap₂, _∙_, subst}
-use mathlib.Core.Logic.{_↔_}
+use mathlib.Core.Path.{_≡_, refl, sym, ap, ap₂, _∙_}
 use mathlib.Core.Bool.{Bool, true, false, cond, _&&_}
 use mathlib.Core.List.{List, [], _∷_, _++_}
 use Prim.Native.Nat.{ℕ, zero, suc, _+_, _*_, _%_, _^_, _<_}
@@ -30,9 +29,6 @@ same-eq [] [] e = refl
 same-eq [] (y ∷ ys) e = absurd (let z : _≡_ {A = ℕ} 0 1 = cc in omega arith)
 same-eq (x ∷ xs) [] e = absurd (let z : _≡_ {A = ℕ} 0 1 = cc in omega arith)
 same-eq (x ∷ xs) (y ∷ ys) e = let p = and-both (eqb x y) (same xs ys) e in ap₂ _∷_ (eqb-true x y (p .0)) (same-eq xs ys (p .1))
-
-pub same-is : (xs ys : List ℕ) → same xs ys ≡ true ↔ xs ≡ ys
-same-is xs ys = (same-eq xs ys, λ e. subst (λ zs. same xs zs ≡ true) e (same-refl xs))
 
 -- ---- a list in parts
 

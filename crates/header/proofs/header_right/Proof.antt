@@ -1,6 +1,5 @@
 -- `header::header_right` meets its contract.
 use mathlib.Core.Path.{sym, _∙_}
-use native.Mathlib.Omega.{arith}
 use borrow.Author.Needs.{needs}
 use Rattle.theory.specs.Stages.{Header}
 use Rattle.counts.specs.Parts.{ZeroBytes}

@@ -4,8 +4,8 @@ use mathlib.Core.Path.{_≡_}
 use Prim.Native.Nat.{ℕ, _≤_, _<_}
 use Rattle.meaning.specs.Image.{parentsIn}
 use Rattle.meaning.specs.Questions.{answer}
-use Rattle.kinds.specs.Values.{valueOf}
-use Rattle.kinds.proofs.Each.{of-kind, past}
+use Rattle.signs.specs.Values.{valueOf}
+use Rattle.kinds.proofs.Numbers.{of-kind, past}
 use borrow.Author.Needs.{needs}
 use Rattle.kinds.proofs.reply.Statement.{statement}
 use Rattle.kinds.proofs.reply.Tie as tie

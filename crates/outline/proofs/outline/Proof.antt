@@ -7,10 +7,10 @@ use native.Mathlib.Omega.{arith}
 use Rattle.meaning.specs.Image.{parentsIn}
 use Rattle.image.specs.declared.Checked.the-variants.{Sound}
 use Rattle.image.specs.Checked.{answered, checked}
-use Rattle.listing.proofs.Numbers.{parents-count}
-use Rattle.outline.specs.Outline.{heading, nodeLines, refusal}
-use Rattle.outline.proofs.Putting.{both-put, put-length}
-use Rattle.outline.proofs.Lines.{heading-most, refusal-most, lines-most}
+use Rattle.levels.proofs.Numbers.{parents-count}
+use Rattle.lines.specs.Lines.{heading, nodeLines, refusal}
+use Rattle.text.proofs.Putting.{both-put, put-length}
+use Rattle.lines.proofs.Sizes.{heading-most, refusal-most, lines-most}
 use Rattle.outline.proofs.Outlining.{Listed, outline-refused, outline-many, outline-listed, put-outline}
 use Rattle.outline.proofs.outline.Statement.{statement}
 use Rattle.outline.proofs.outline.Tie as tie

@@ -3,7 +3,7 @@ use mathlib.Core.Path.{sym, ap, ap₂, _∙_}
 use native.Mathlib.Omega.{arith}
 use Rattle.meaning.specs.Answers.{refusedWith, cameTo}
 use Rattle.image.specs.Checked.{answered}
-use Rattle.questions.proofs.Turns.{questions-count}
+use Rattle.allowing.proofs.Turns.{questions-count}
 use Rattle.questions.proofs.Asking.{not-threes, too-many, threes, asked-size, asked-refused, asked-bad, asked-short, asked-answered}
 use borrow.Author.Needs.{needs}
 use Rattle.questions.proofs.ask.Statement.{statement}

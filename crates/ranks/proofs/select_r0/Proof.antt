@@ -1,24 +1,24 @@
 -- `ranks::select_r0` meets its contract.
 use Rattle.theory.specs.Rank.{position}
 use Rattle.ranks.proofs.Strings.{in-r0, ready0}
-use borrow.Author.Needs.{needs}
+use native.Mathlib.Omega.{arith}
 use Rattle.ranks.proofs.select_r0.Statement.{statement}
 use Rattle.ranks.proofs.select_r0.Tie as tie
 
 cast-select : tie.Need-cast-select
-cast-select c = search needs
+cast-select c = omega arith
 
 cast-select-2 : tie.Need-cast-select-2
-cast-select-2 c = search needs
+cast-select-2 c = omega arith
 
 add-select : tie.Need-add-select
-add-select c = search needs
+add-select c = omega arith
 
 cast-select-3 : tie.Need-cast-select-3
-cast-select-3 c = search needs
+cast-select-3 c = omega arith
 
 cast-select-4 : tie.Need-cast-select-4
-cast-select-4 c = search needs
+cast-select-4 c = omega arith
 
 select-requires : tie.Need-select-requires
 select-requires c κs =

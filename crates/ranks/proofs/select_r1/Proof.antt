@@ -1,18 +1,18 @@
 -- `ranks::select_r1` meets its contract.
 use Rattle.theory.specs.Rank.{position}
 use Rattle.ranks.proofs.Strings.{in-r1, ready1}
-use borrow.Author.Needs.{needs}
+use native.Mathlib.Omega.{arith}
 use Rattle.ranks.proofs.select_r1.Statement.{statement}
 use Rattle.ranks.proofs.select_r1.Tie as tie
 
 cast-select : tie.Need-cast-select
-cast-select c = search needs
+cast-select c = omega arith
 
 cast-select-2 : tie.Need-cast-select-2
-cast-select-2 c = search needs
+cast-select-2 c = omega arith
 
 cast-select-3 : tie.Need-cast-select-3
-cast-select-3 c = search needs
+cast-select-3 c = omega arith
 
 select-requires : tie.Need-select-requires
 select-requires c κs =

@@ -16,34 +16,34 @@ add-at c = search needs
 mul-at : tie.Need-mul-at
 mul-at c = search needs
 
-add-pieces-sampled : tie.Need-add-pieces-sampled
-add-pieces-sampled c = search needs
+add-piece-sampled : tie.Need-add-piece-sampled
+add-piece-sampled c = search needs
 
-mul-pieces-sampled : tie.Need-mul-pieces-sampled
-mul-pieces-sampled c = search needs
+mul-piece-sampled : tie.Need-mul-piece-sampled
+mul-piece-sampled c = search needs
 
 word-requires : tie.Need-word-requires
 word-requires c κs = omega arith
 
-cast-pieces-sampled : tie.Need-cast-pieces-sampled
-cast-pieces-sampled c = search needs
+cast-piece-sampled : tie.Need-cast-piece-sampled
+cast-piece-sampled c = search needs
 
-pieces-sampled-requires : tie.Need-pieces-sampled-requires
-pieces-sampled-requires c κs =
+piece-sampled-requires : tie.Need-piece-sampled-requires
+piece-sampled-requires c κs =
     let a = c .before .before .args in
     let b = a .b .now in
     let most = onesTo-le b (a .first) (4000 * a .j) in
     let whole = onesTo-block b (a .first) (a .j) (a .n) (omega arith) in
-    (omega arith, (omega arith, (omega arith, (omega arith, (omega arith, (omega arith, omega arith))))))
+    (omega arith, (omega arith, (omega arith, (omega arith, (omega arith, (omega arith, (omega arith, omega arith)))))))
 
 returns : tie.Need-returns
 returns c =
     let a = c .before .before .before .args in
     let b = a .b .now in
     let k = c .before .word .result in
-    let e = c .before .word .ensures ∙ c .before .before .before .pre .1 .1 .1 .1 .1 .1 in
-    says-same (c .pieces-sampled .result) (PieceSampled b (a .from) (512 * (a .first + a .j) + 4) (a .n) (4000 * a .j) k) (SampledWithin b (a .from) (a .first) (4000 * a .j) (4000 * a .j + a .n))
-    (sampled-block b (a .from) (a .first) (a .j) (a .n) k (omega arith) e) (block-sampled b (a .from) (a .first) (a .j) (a .n) k (omega arith) e) (c .pieces-sampled .ensures)
+    let e = c .before .word .ensures ∙ c .before .before .before .pre .1 .1 .1 .1 .1 .1 .1 in
+    says-same (c .piece-sampled .result) (PieceSampled b (a .from) (512 * (a .first + a .j) + 4) (a .n) (4000 * a .j) k) (SampledWithin b (a .from) (a .first) (4000 * a .j) (4000 * a .j + a .n))
+    (sampled-block b (a .from) (a .first) (a .j) (a .n) k (omega arith) e) (block-sampled b (a .from) (a .first) (a .j) (a .n) k (omega arith) e) (c .piece-sampled .ensures)
 
 pub block-sampled-spec : {M : Type 1} → statement M
 block-sampled-spec =
@@ -51,9 +51,9 @@ block-sampled-spec =
     (tie.spec
     add-at
     mul-at
-    add-pieces-sampled
-    mul-pieces-sampled
+    add-piece-sampled
+    mul-piece-sampled
     word-requires
-    cast-pieces-sampled
-    pieces-sampled-requires
+    cast-piece-sampled
+    piece-sampled-requires
     returns)

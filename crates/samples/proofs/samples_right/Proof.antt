@@ -11,7 +11,8 @@ use Rattle.samples.proofs.samples_right.Tie as tie
 
 all-sampled-requires : tie.Need-all-sampled-requires
 all-sampled-requires c κs =
-    (omega arith, (omega arith, (omega arith, (omega arith, (omega arith, (omega arith, c .before .pre .1 .1 .1 .1 .1 .1 .1))))))
+    let p = c .before .pre in
+    (omega arith, (omega arith, (omega arith, (omega arith, (p .1 .1 .0, (omega arith, (omega arith, p .1 .1 .1 .1 .1 .1 .1)))))))
 
 returns : tie.Need-returns
 returns c =

@@ -1,7 +1,6 @@
 -- `scan::over_words` meets its contract.
 use mathlib.Core.Path.{_∙_}
 use Prim.Native.Nat.{_-_, _/_}
-use native.Mathlib.Omega.{arith}
 use borrow.Author.Needs.{needs}
 use Rattle.scan.specs.Falls.{ReadOn}
 use Rattle.scan.proofs.Whole.{none-yet, more, word-fall}

@@ -1,6 +1,6 @@
 -- `seal::image_of_parents` meets its contract.
 use Rattle.seal.proofs.Answers.{image-none, image-many, image-entry, image-room, image-made}
-use Rattle.seal.proofs.Preparing.{few-marks}
+use Rattle.payloads.proofs.Preparing.{few-marks}
 use lib.ListN.{length}
 use Rattle.theory.proofs.Lowest.{bad-within}
 use Rattle.theory.specs.Stages.{blocksNeeded}

@@ -1,5 +1,6 @@
 -- `seal::write_image` meets its contract.
-use Rattle.seal.proofs.Preparing.{few-marks, prepared-sealed}
+use Rattle.payloads.proofs.Preparing.{few-marks}
+use Rattle.seal.proofs.Filled.{prepared-sealed}
 use Rattle.strings.proofs.Marking.{good-parents}
 use native.Mathlib.Omega.{arith}
 use mathlib.Core.Path.{_∙_}

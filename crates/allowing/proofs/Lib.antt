@@ -1,0 +1,3 @@
+pub mod Signs
+pub mod Allowing
+pub mod Turns

@@ -1,0 +1,26 @@
+-- `by_bit::bit_r1` meets its contract.
+use native.Mathlib.Omega.{arith}
+use Rattle.runs.proofs.Own.{bit1}
+use Rattle.ranks.proofs.Strings.{ready1}
+use borrow.Author.Needs.{needs}
+use Rattle.by_bit.proofs.bit_r1.Statement.{statement}
+use Rattle.by_bit.proofs.bit_r1.Tie as tie
+
+sub-string-bit : tie.Need-sub-string-bit
+sub-string-bit c = search needs
+
+string-bit-requires : tie.Need-string-bit-requires
+string-bit-requires c κs =
+    let s = c .before in
+    let a = s .args in
+    let r = ready1 (a .b .now) (a .image) (s .pre .0) in
+    (omega (arith, r .most), (omega arith, omega (arith, r .room)))
+
+returns : tie.Need-returns
+returns c =
+    let s = c .before .before in
+    let a = s .args in
+    bit1 (a .b .now) (a .image) (s .pre .0) (a .x) (c .string-bit .result) (s .pre .1 .0) (s .pre .1 .1) (c .string-bit .ensures)
+
+pub bit-r1-spec : {M : Type 1} → statement M
+bit-r1-spec = tie.close (tie.spec sub-string-bit string-bit-requires returns)

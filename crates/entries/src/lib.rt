@@ -1,0 +1,55 @@
+// A parent list: its check, and its string written.
+ghost use mathlib.Core.Path.{_≡_};
+ghost use Prim.Native.Nat.{_+_, _*_, _≤_};
+ghost use Rattle.meaning.specs.Parents.{badEntry};
+ghost use Rattle.meaning.specs.Strings.{stringOf};
+ghost use Rattle.bits.specs.Appended.{appended};
+
+fn wide(x: u32) -> usize
+    ensures { λ r. ⌜ r ≡ x ⌝ }
+{
+    x as usize
+}
+
+// 0 if `ps` is a parent list, and else the lowest entry that breaks the rule.
+pub fn bad_entry(ps: &[u32]) -> usize
+    requires { do ⌜ 1 ≤ (← ⟦ps.len()⟧) ⌝ }
+    requires { do ⌜ (← ⟦ps.len()⟧) ≤ 65535 ⌝ }
+    ensures { λ r. ⌜ r ≡ badEntry (now (ps .entry)) ⌝ }
+{
+    if ps[0] != 0 {
+        return 1;
+    }
+    let mut low: u32 = 1;
+    let mut i: usize = 1;
+    while i < ps.len() {
+        let p = ps[i];
+        if p < low {
+            return i + 1;
+        }
+        if wide(p) > i {
+            return i + 1;
+        }
+        low = p;
+        i += 1;
+    }
+    0
+}
+
+// Writes the string of a parent list after the first `from` bits of a buffer: zeros, and among them a one for each entry, which comes
+// after the ones of earlier entries and as many zeros as the entry says.
+pub fn write_string(buf: &mut [u8], from: usize, ps: &[u32])
+    requires { do ⌜ 1 ≤ (← ⟦ps.len()⟧) ⌝ }
+    requires { do ⌜ (← ⟦ps.len()⟧) ≤ 65535 ⌝ }
+    requires { ⌜ badEntry (now ps) ≡ 0 ⌝ }
+    requires { ⌜ from ≤ 131071 ⌝ }
+    requires { do ⌜ from + (2 * (← ⟦ps.len()⟧) + 1) ≤ 8 * (← ⟦buf.len()⟧) ⌝ }
+    ensures { λ _. ⌜ now (buf .exit) ≡ appended (now (buf .entry)) from (stringOf (now (ps .entry))) ⌝ }
+{
+    bits::blank(buf, from, 2 * ps.len() + 1);
+    let mut i: usize = 0;
+    while i < ps.len() {
+        bits::set_bit(buf, from + i + wide(ps[i]));
+        i += 1;
+    }
+}

@@ -1,0 +1,2 @@
+pub mod Levels
+pub mod Cursors

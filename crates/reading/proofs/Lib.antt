@@ -1,0 +1,2 @@
+pub mod Leftover
+pub mod Writing

@@ -1,0 +1,2 @@
+pub mod Checking
+pub mod Laws

@@ -1,0 +1,2 @@
+pub mod ToSplit
+pub mod ToJoin

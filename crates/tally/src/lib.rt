@@ -1,0 +1,63 @@
+// Ones counted in a run of bits, in part of eight bytes, and in common to two words of eight bytes.
+ghost use mathlib.Core.Path.{_≡_};
+ghost use Prim.Native.Nat.{_+_, _*_, _/_, _<_, _≤_};
+ghost use Rattle.meaning.specs.Strings.{ones};
+ghost use Rattle.meaning.specs.Bytes.{bitAt, bitsFrom, value};
+ghost use Rattle.tally.specs.Both.{both};
+use byte::ones_in_byte;
+use byte::ones_in_front;
+use words::ones_in_word;
+use words::whole_word;
+
+// How many of the n bits from byte `at` on are one: words of eight bytes, then bytes, then the front of the last byte.
+pub fn ones_from(b: &[u8], at: usize, n: usize) -> u32
+    requires { ⌜ n ≤ 4000 ⌝ }
+    requires { do ⌜ at + (n + 7) / 8 ≤ (← ⟦b.len()⟧) ⌝ }
+    ensures { λ r. ⌜ r ≡ ones (bitsFrom (now (b .entry)) (8 * at) n) ⌝ }
+{
+    let whole = n / 8;
+    let mut count: u32 = 0;
+    let mut i: usize = 0;
+    while i + 8 <= whole {
+        count += ones_in_word(b, at + i);
+        i += 8;
+    }
+    while i < whole {
+        count += ones_in_byte(b[at + i]);
+        i += 1;
+    }
+    if n % 8 == 0 {
+        return count;
+    }
+    count + ones_in_front(b[at + whole], n % 8)
+}
+
+// How many of the first n bits from byte `at` on are one, of the 64 in eight bytes.
+pub fn ones_before(b: &[u8], at: usize, n: usize) -> u32
+    requires { ⌜ n < 64 ⌝ }
+    requires { do ⌜ at + 8 ≤ (← ⟦b.len()⟧) ⌝ }
+    ensures { λ r. ⌜ r ≡ ones (bitsFrom (now (b .entry)) (8 * at) n) ⌝ }
+{
+    // two shifts, since 64 is too far for one
+    u64::count_ones((whole_word(b, at) >> 1) >> (63 - n))
+}
+
+// How many of the bits from byte `at` on up to the one that p come before are one, if that one is; else 0.
+pub fn ones_ending(b: &[u8], at: usize, p: usize) -> u32
+    requires { ⌜ p < 64 ⌝ }
+    requires { do ⌜ at + 8 ≤ (← ⟦b.len()⟧) ⌝ }
+    ensures { λ r. ⌜ r ≡ value (bitAt (now (b .entry)) (8 * at + p)) * ones (bitsFrom (now (b .entry)) (8 * at) (p + 1)) ⌝ }
+{
+    // a product, not a branch on the bit
+    let x = whole_word(b, at) >> (63 - p);
+    (x % 2) as u32 * u64::count_ones(x)
+}
+
+// At how many of 64 places both the bits from byte `at` on and those from byte `other` on are one.
+pub fn ones_in_both(b: &[u8], at: usize, other: usize) -> u32
+    requires { do ⌜ at + 8 ≤ (← ⟦b.len()⟧) ⌝ }
+    requires { do ⌜ other + 8 ≤ (← ⟦b.len()⟧) ⌝ }
+    ensures { λ r. ⌜ r ≡ ones (both (bitsFrom (now (b .entry)) (8 * at) 64) (bitsFrom (now (b .entry)) (8 * other) 64)) ⌝ }
+{
+    u64::count_ones(whole_word(b, at) & whole_word(b, other))
+}
