@@ -1,4 +1,2 @@
 pub mod Ends
-pub mod Steps
-pub mod Whole
 pub mod Table

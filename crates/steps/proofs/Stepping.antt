@@ -1,108 +1,20 @@
--- Two strings in step: the ones among the first bits, counted bit by bit or byte by byte.
-use mathlib.Core.Path.{_≡_, refl, sym, ap, _∙_}
-use mathlib.Core.List.{List, [], _∷_}
-use Prim.Native.Nat.{ℕ, zero, suc, _+_, _-_, _*_, _≤_, _<_}
-use native.Mathlib.Decide.{decLt}
+-- Two strings of an image in step, block by block: the ones among the first bits of each.
+use mathlib.Core.Path.{_≡_, sym, ap, _∙_}
+use mathlib.Core.List.{List}
+use Prim.Native.Nat.{ℕ, _+_, _-_, _*_, _≤_, _<_}
 use native.Mathlib.Omega.{arith}
-use borrow.Author.Count.{below-more}
-use lib.ListN.{length, take}
-use Rattle.meaning.specs.Strings.{Bit, O, I, ones}
-use Rattle.meaning.specs.Bytes.{value, bitAt, bitsFrom}
+use Rattle.meaning.specs.Strings.{Bit}
+use Rattle.meaning.specs.Bytes.{value, bitAt}
 use Rattle.meaning.specs.Image.{stringIn}
 use Rattle.theory.specs.Layout.{bitPlace}
 use Rattle.theory.specs.Stages.{InStep}
 use Rattle.theory.proofs.Bits.{I≢O}
-use Rattle.theory.proofs.Packing.{bits-length}
 use Rattle.theory.proofs.TreeImages.{length-stringIn}
-use Rattle.bits.specs.Both.{both}
 use Rattle.bits.proofs.Values.{is-O, is-I}
-use Rattle.bits.proofs.Runs.{bits-ones-le, ones-cut, bits-take, ones-after, eight-more}
 use Rattle.counts.specs.Parts.{onesTo}
 use Rattle.counts.proofs.Ones.{onesTo-take, onesTo-mono, onesTo-block, string-at}
-use Rattle.steps.specs.Steps.{StepAt, StepWithin}
-
--- ---- in pieces
-
--- a one that both have moves neither ahead
-shared : (xs ys : List Bit) (p : ℕ) → length xs ≡ length ys → ones (take p xs) + ones (both xs ys) ≤ ones (take p ys) + ones xs
-shared [] ys zero h = omega arith
-shared [] ys (suc p) h = omega arith
-shared (x ∷ xs) [] p h = absurd (omega arith)
-shared (O ∷ xs) (y ∷ ys) zero h = omega (arith, shared xs ys 0 (omega arith))
-shared (I ∷ xs) (O ∷ ys) zero h = omega (arith, shared xs ys 0 (omega arith))
-shared (I ∷ xs) (I ∷ ys) zero h = omega (arith, shared xs ys 0 (omega arith))
-shared (O ∷ xs) (O ∷ ys) (suc p) h = omega (arith, shared xs ys p (omega arith))
-shared (O ∷ xs) (I ∷ ys) (suc p) h = omega (arith, shared xs ys p (omega arith))
-shared (I ∷ xs) (O ∷ ys) (suc p) h = omega (arith, shared xs ys p (omega arith))
-shared (I ∷ xs) (I ∷ ys) (suc p) h = omega (arith, shared xs ys p (omega arith))
-
--- sixteen bytes more, counted as two words
-module _ (bytes : List ℕ) (at i front back : ℕ) (f : front ≡ ones (bitsFrom bytes (8 * (at + i)) 64)) (b : back ≡ ones (bitsFrom bytes (8 * (at + i + 8)) 64)) where
-  pub sixteen-more : ones (bitsFrom bytes (8 * at) (8 * i)) + (front + back) ≡ ones (bitsFrom bytes (8 * at) (8 * (i + 16)))
-  sixteen-more =
-      omega (
-        arith,
-        eight-more bytes at i,
-        eight-more bytes at (i + 8),
-        ap (λ a. ones (bitsFrom bytes (8 * a) 64)) (let e : at + (i + 8) ≡ at + i + 8 = omega arith in e),
-        ap (λ m. ones (bitsFrom bytes (8 * at) (8 * m))) (let e : i + 8 + 8 ≡ i + 16 = omega arith in e),
-      )
-
-  pub sixteen-few : front + back ≤ 128
-  sixteen-few = omega (arith, bits-ones-le bytes (8 * (at + i)) 64, bits-ones-le bytes (8 * (at + i + 8)) 64)
-
-module _ (bytes : List ℕ) (at1 at0 k1 k0 : ℕ) where
-  pub step-none : StepAt bytes at1 at0 0 k1 k0
-  step-none p h = absurd (omega arith)
-
-  -- one bit more
-  pub step-bit : (i : ℕ) → StepAt bytes at1 at0 i k1 k0 → k1 + ones (bitsFrom bytes (8 * at1) i) ≤ k0 + ones (bitsFrom bytes (8 * at0) i) → StepAt bytes at1 at0 (i + 1) k1 k0
-  step-bit i all here = below-more (λ p. k1 + ones (bitsFrom bytes (8 * at1) p) ≤ k0 + ones (bitsFrom bytes (8 * at0) p)) i all here
-
-  -- n bits in which R1 does not come to have more
-  pub step-over : (n more : ℕ) → more ≡ ones (bitsFrom bytes (8 * at1) n) → k1 + more ≤ k0 → StepAt bytes at1 at0 n k1 k0
-  step-over n more e h p l =
-      let k = n - p in
-      omega (arith, ones-cut bytes (8 * at1) p k, ap (λ m. ones (bitsFrom bytes (8 * at1) m)) (let f : p + k ≡ n = omega arith in f))
-
-  pub step-over-both : (more c : ℕ) → more ≡ ones (bitsFrom bytes (8 * at1) 64) → c ≡ ones (both (bitsFrom bytes (8 * at1) 64) (bitsFrom bytes (8 * at0) 64))
-      → k1 + more ≤ k0 + c → StepAt bytes at1 at0 64 k1 k0
-  step-over-both more c e f h p l =
-      let xs = bitsFrom bytes (8 * at1) 64 in
-      let ys = bitsFrom bytes (8 * at0) 64 in
-      omega (
-        arith,
-        shared xs ys p (bits-length bytes (8 * at1) 64 ∙ sym (bits-length bytes (8 * at0) 64)),
-        ap (λ l. ones l) (bits-take bytes (8 * at1) p 64 (omega arith)),
-        ap (λ l. ones l) (bits-take bytes (8 * at0) p 64 (omega arith)),
-      )
-
-  -- n bits, too few for R1 to come to have more
-  pub step-ahead : (n : ℕ) → k1 + n ≤ k0 → StepAt bytes at1 at0 n k1 k0
-  step-ahead n h = step-over n (ones (bitsFrom bytes (8 * at1) n)) refl (omega (arith, bits-ones-le bytes (8 * at1) n))
-
-  -- i bytes behind, n bits more
-  module _ (i c1 c0 : ℕ) (e1 : c1 ≡ k1 + ones (bitsFrom bytes (8 * at1) (8 * i))) (e0 : c0 ≡ k0 + ones (bitsFrom bytes (8 * at0) (8 * i))) where
-    pub step-join : (n m : ℕ) → 8 * i + n ≡ m → StepAt bytes at1 at0 (8 * i) k1 k0 → StepAt bytes (at1 + i) (at0 + i) n c1 c0 → StepAt bytes at1 at0 m k1 k0
-    step-join n m e before after p h = elim (decLt p (8 * i)) [
-      | yes l ↦ before p l
-      | no l ↦
-          let q = p - 8 * i in
-          let f : 8 * i + q ≡ p = omega arith in
-          omega (
-            arith,
-            after q (omega arith),
-            ones-after bytes at1 i q,
-            ones-after bytes at0 i q,
-            ap (λ k. ones (bitsFrom bytes (8 * at1) k)) f,
-            ap (λ k. ones (bitsFrom bytes (8 * at0) k)) f,
-          )
-    ]
-
-    pub step-part : (n m : ℕ) → 8 * i + n ≤ m → StepAt bytes at1 at0 m k1 k0 → StepAt bytes (at1 + i) (at0 + i) n c1 c0
-    step-part n m h all p l = omega (arith, all (8 * i + p) (omega arith), ones-after bytes at1 i p, ones-after bytes at0 i p)
-
--- ---- what the code finds
+use Rattle.byte_steps.specs.Steps.{StepAt}
+use Rattle.steps.specs.Steps.{StepWithin}
 
 module _ (bytes : List ℕ) (zeros : ℕ) where
   -- a block

@@ -4,8 +4,8 @@ use native.Mathlib.Omega.{arith}
 use borrow.Author.Needs.{needs}
 use Rattle.meaning.specs.Image.{stringIn}
 use Rattle.theory.specs.Stages.{Ended}
-use Rattle.counts.proofs.Saying.{says-is}
-use Rattle.counts.proofs.Pieces.{ended, ended-last}
+use Rattle.parts.proofs.Saying.{says-is}
+use Rattle.parts.proofs.Pieces.{ended, ended-last}
 use Rattle.counts.proofs.string_ended.Statement.{statement}
 use Rattle.counts.proofs.string_ended.Tie as tie
 

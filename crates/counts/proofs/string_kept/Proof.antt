@@ -4,9 +4,9 @@ use native.Mathlib.Omega.{arith}
 use borrow.Author.Needs.{needs}
 use Rattle.meaning.specs.Image.{stringIn}
 use Rattle.theory.specs.Stages.{Kept}
-use Rattle.counts.specs.Parts.{Counted, Unused}
-use Rattle.counts.proofs.Saying.{says-same, says-held, says-missed}
-use Rattle.counts.proofs.Blanks.{kept, kept-counts, kept-unused}
+use Rattle.parts.specs.Parts.{Counted, Unused}
+use Rattle.parts.proofs.Saying.{says-same, says-held, says-missed}
+use Rattle.parts.proofs.Blanks.{kept, kept-counts, kept-unused}
 use Rattle.counts.proofs.string_kept.Statement.{statement}
 use Rattle.counts.proofs.string_kept.Tie as tie
 

@@ -1,7 +1,7 @@
 -- `counts::string_right` meets its contract.
 use native.Mathlib.Omega.{arith}
-use Rattle.counts.proofs.Blanks.{kept-counts}
-use Rattle.counts.proofs.Saying.{says-held, says-missed, says-same}
+use Rattle.parts.proofs.Blanks.{kept-counts}
+use Rattle.parts.proofs.Saying.{says-held, says-missed, says-same}
 use Rattle.counts.proofs.string_right.Statement.{statement}
 use Rattle.counts.proofs.string_right.Tie as tie
 

@@ -3,7 +3,8 @@ use borrow.Author.Needs.{needs}
 use mathlib.Core.Path.{_∙_}
 use Prim.Native.Nat.{_+_, _*_}
 use native.Mathlib.Omega.{arith}
-use Rattle.samples.specs.Samples.{PieceSampled, SampledWithin}
+use Rattle.piece_samples.specs.Pieces.{PieceSampled}
+use Rattle.samples.specs.Samples.{SampledWithin}
 use Rattle.counts.proofs.Saying.{says-same}
 use Rattle.counts.proofs.Ones.{onesTo-le, onesTo-block}
 use Rattle.samples.proofs.Sampling.{sampled-block, block-sampled}

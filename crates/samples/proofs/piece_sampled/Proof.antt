@@ -1,7 +1,7 @@
 -- `samples::piece_sampled` meets its contract.
 use borrow.Author.Needs.{needs}
 use native.Mathlib.Omega.{arith}
-use Rattle.samples.proofs.Sampling.{counts-few, counts-before}
+use Rattle.word_table.proofs.Adding.{counts-few, counts-before}
 use Rattle.samples.proofs.piece_sampled.Statement.{statement}
 use Rattle.samples.proofs.piece_sampled.Tie as tie
 

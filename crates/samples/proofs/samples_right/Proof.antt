@@ -2,7 +2,8 @@
 use native.Mathlib.Omega.{arith}
 use Rattle.meaning.specs.Image.{stringIn}
 use Rattle.theory.specs.Stages.{Sampled}
-use Rattle.samples.specs.Samples.{SampledWithin, RestZero}
+use Rattle.sample_words.specs.Words.{RestZero}
+use Rattle.samples.specs.Samples.{SampledWithin}
 use Rattle.counts.proofs.Ones.{onesTo-le}
 use Rattle.counts.proofs.Saying.{says-held, says-missed, says-same}
 use Rattle.samples.proofs.Sampling.{sampled, sampled-within, sampled-rest}

@@ -1,7 +1,7 @@
 -- `scan::tree_end` meets its contract: its table is right.
 use borrow.Author.Needs.{needs}
 use native.Mathlib.Omega.{arith}
-use Rattle.scan.proofs.Table.{falls-right}
+use Rattle.falls.proofs.Table.{falls-right}
 use Rattle.scan.proofs.tree_end.Statement.{statement}
 use Rattle.scan.proofs.tree_end.Tie as tie
 

@@ -2,7 +2,7 @@
 use mathlib.Core.Path.{sym, _∙_}
 use borrow.Author.Needs.{needs}
 use native.Mathlib.Omega.{arith}
-use Rattle.scan.proofs.Steps.{endFrom, begin-none, begin-zero, begin-alone, begin-second, begin-inside}
+use Rattle.closing.proofs.Steps.{endFrom, begin-none, begin-zero, begin-alone, begin-second, begin-inside}
 use Rattle.scan.proofs.tree_end_by.Statement.{statement}
 use Rattle.scan.proofs.tree_end_by.Tie as tie
 

@@ -3,7 +3,8 @@ use borrow.Author.Needs.{needs}
 use mathlib.Core.Path.{_∙_}
 use Prim.Native.Nat.{_+_, _*_}
 use native.Mathlib.Omega.{arith}
-use Rattle.steps.specs.Steps.{StepAt, StepWithin}
+use Rattle.byte_steps.specs.Steps.{StepAt}
+use Rattle.steps.specs.Steps.{StepWithin}
 use Rattle.counts.proofs.Saying.{says-same}
 use Rattle.counts.proofs.Ones.{onesTo-le}
 use Rattle.steps.proofs.Stepping.{step-block, block-step}

@@ -1,0 +1,21 @@
+-- The words of samples: where each stands, the one that it names, and zeros after the last.
+use mathlib.Core.Path.{_≡_}
+use mathlib.Core.List.{List}
+use Prim.Native.Nat.{ℕ, _+_, _*_, _/_, _≤_, _<_}
+use Rattle.meaning.specs.Strings.{I, ones}
+use Rattle.meaning.specs.Bytes.{bitAt, bitsFrom}
+use Rattle.theory.specs.Layout.{wordAt, samplePlace}
+use Rattle.theory.specs.Stages.{blocksOfSamples}
+
+-- the word of sample number q, from 0, where the samples' blocks begin at block `from`
+abbrev pub sampleIn : List ℕ → ℕ → ℕ → ℕ
+sampleIn bytes from q = wordAt bytes (samplePlace from q)
+
+-- of n bits from byte `at` on, which i bits of their string come before: the position of one number `nth` of them, from 1
+abbrev pub NamesOne : List ℕ → ℕ → ℕ → ℕ → ℕ → ℕ → Type 0
+NamesOne bytes at n i nth place =
+    (p : ℕ) → p < n → bitAt bytes (8 * at + p) ≡ I → ones (bitsFrom bytes (8 * at) p) + 1 ≡ nth → place ≡ i + p + 1
+
+-- m ones have (m + 63) / 64 samples; zeros in the words after those
+abbrev pub RestZero : List ℕ → ℕ → ℕ → Type 0
+RestZero bytes from m = (q : ℕ) → (m + 63) / 64 ≤ q → q < 126 * blocksOfSamples m → sampleIn bytes from q ≡ 0

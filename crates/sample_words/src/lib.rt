@@ -1,0 +1,65 @@
+// The words of samples, looked at by themselves: does one name the right bit, and are those after the last zero?
+ghost use Prim.Native.Nat.{_+_, _*_, _≤_};
+ghost use Rattle.meaning.specs.Strings.{ones};
+ghost use Rattle.meaning.specs.Bytes.{bitsFrom};
+ghost use Rattle.theory.specs.Layout.{wordAt};
+ghost use Rattle.theory.specs.Stages.{blocksOfSamples};
+ghost use Rattle.counts.specs.Says.{Says};
+ghost use Rattle.word_table.specs.Table.{CountsBefore};
+ghost use Rattle.sample_words.specs.Words.{NamesOne, RestZero};
+use bits::ones_ending;
+use blocks::word;
+
+// Of the first n bits from byte `at` on, which i bits of their string come before: does the sample at byte p name one number `nth` of them, from 1?
+pub fn sample_right(
+    b: &[u8],
+    p: usize,
+    at: usize,
+    n: usize,
+    i: usize,
+    nth: usize,
+    table: &[u32; 63],
+) -> bool
+    requires { ⌜ at ≤ 39000 ⌝ }
+    requires { ⌜ n ≤ 4000 ⌝ }
+    requires { ⌜ i ≤ 65536 ⌝ }
+    requires { ⌜ 1 ≤ nth ⌝ }
+    requires { ⌜ nth ≤ ones (bitsFrom (now b) (8 * at) n) ⌝ }
+    requires { do ⌜ p + 4 ≤ (← ⟦b.len()⟧) ⌝ }
+    requires { do ⌜ at + 504 ≤ (← ⟦b.len()⟧) ⌝ }
+    requires { ⌜ CountsBefore (now b) at (now table) ⌝ }
+    ensures { λ r. ⌜ Says r (NamesOne (now (b .entry)) at n i nth (wordAt (now (b .entry)) p)) ⌝ }
+{
+    let place = word(b, p) as usize;
+    if place <= i {
+        return false;
+    }
+    if i + n < place {
+        return false;
+    }
+    let o = place - i - 1;
+    let upto = ones_ending(b, at + 8 * (o / 64), o % 64) as usize;
+    // no one stands there
+    if upto == 0 {
+        return false;
+    }
+    table[o / 64] as usize + upto == nth
+}
+
+// Are the words of the samples' blocks zero after the last sample of m ones?
+pub fn words_zero(b: &[u8], from: usize, m: u32) -> bool
+    requires { ⌜ m ≤ 65536 ⌝ }
+    requires { ⌜ from ≤ 53 ⌝ }
+    requires { do ⌜ 512 * (from + blocksOfSamples m) ≤ (← ⟦b.len()⟧) ⌝ }
+    ensures { λ r. ⌜ Says r (RestZero (now (b .entry)) from m) ⌝ }
+{
+    let mut s = (m as usize + 63) / 64;
+    let end = (s + 125) / 126 * 126;
+    while s < end {
+        if word(b, 512 * (from + s / 126) + 4 * (s % 126)) != 0 {
+            return false;
+        }
+        s += 1;
+    }
+    true
+}

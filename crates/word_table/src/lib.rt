@@ -1,0 +1,36 @@
+// A table of the ones before each of 63 words of eight bytes.
+ghost use mathlib.Core.Path.{_≡_};
+ghost use Prim.Native.Nat.{ℕ, _+_, _≤_, _<_};
+ghost use lib.ListN.{getD, length};
+ghost use Rattle.word_table.specs.Table.{WordCounts, sumTo};
+use bits::ones_in_word;
+
+// How many bits of each of 63 words of eight bytes from byte `at` on are one. Each by itself, so that they become lanes.
+pub fn count_words(b: &[u8], at: usize, table: &mut [u32; 63])
+    requires { do ⌜ at + 504 ≤ (← ⟦b.len()⟧) ⌝ }
+    requires { ⌜ length (now table) ≡ 63 ⌝ }
+    ensures { λ _. ⌜ length (now (table .exit)) ≡ 63 ⌝ }
+    ensures { λ _. ⌜ WordCounts (now (b .entry)) at (now (table .exit)) ⌝ }
+{
+    let mut w: usize = 0;
+    while w < 63 {
+        table[w] = ones_in_word(b, at + 8 * w);
+        w += 1;
+    }
+}
+
+// Puts in the place of each number what those before it come to.
+pub fn add_up(table: &mut [u32; 63])
+    requires { ⌜ length (now table) ≡ 63 ⌝ }
+    requires { ⌜ ((w : ℕ) → w < 63 → getD (now table) w 0 ≤ 64) ⌝ }
+    ensures { λ _. ⌜ ((w : ℕ) → w < 63 → getD (now (table .exit)) w 0 ≡ sumTo (now (table .entry)) w) ⌝ }
+{
+    let mut sum: u32 = 0;
+    let mut w: usize = 0;
+    while w < 63 {
+        let next = sum + table[w];
+        table[w] = sum;
+        sum = next;
+        w += 1;
+    }
+}
