@@ -7,12 +7,12 @@ ghost use lib.ListN.{length};
 ghost use Rattle.meaning.specs.Answers.{written};
 ghost use Rattle.meaning.specs.Image.{parentsIn};
 ghost use Rattle.meaning.specs.Questions.{allowed, answerTo, notAllowed, questions};
-ghost use Rattle.image.specs.declared.Checked.the-variants.{Sound};
-ghost use Rattle.image.specs.Checked.{checked};
+ghost use Rattle.checked.specs.declared.Checked.the-variants.{Sound};
+ghost use Rattle.checked.specs.Checked.{checked};
 ghost use Rattle.allowing.specs.Asked.{questionAt};
 use allowing::number;
 use allowing::signed_at;
-use image::Image;
+use checked::Image;
 use kinds::reply;
 
 // The answer to question number i, from 0, which is allowed.

@@ -1,13 +1,8 @@
-// Blocks of an image: which blocks hold what; their words and sums stand in the crates below.
+// Blocks of an image: which blocks hold what.
 ghost use mathlib.Core.Path.{_≡_};
 ghost use Prim.Native.Nat.{_≤_};
 ghost use Rattle.meaning.specs.Image.{stringBlocks};
 ghost use Rattle.theory.specs.Stages.{blocksNeeded, blocksOfSamples, samplesFrom, zerosFrom};
-pub use sealing::seal_block;
-pub use sealing::seal_blocks;
-pub use sealing::wrong_block;
-pub use sums::put_word;
-pub use sums::word;
 
 // How many blocks a string of n bits takes.
 pub fn string_blocks(n: usize) -> usize

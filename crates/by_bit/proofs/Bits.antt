@@ -12,10 +12,10 @@ use Rattle.meaning.specs.Image.{parentsIn}
 use Rattle.meaning.specs.Questions.{Ask, nextSibling, previousSibling, leaf, answer}
 use Rattle.theory.specs.ByStrings.{whereZero, bitOf, byStrings}
 use Rattle.theory.specs.Stages.{readR1, readR0}
-use Rattle.image.specs.declared.Image.{Image}
-use Rattle.image.specs.declared.Checked.the-variants.{Sound}
-use Rattle.image.specs.Checked.{checked}
-use Rattle.bits.proofs.Values.{is-O, is-I}
+use Rattle.checked.specs.declared.Image.{Image}
+use Rattle.checked.specs.declared.Checked.the-variants.{Sound}
+use Rattle.checked.specs.Checked.{checked}
+use Rattle.bit.proofs.Values.{is-O, is-I}
 use Rattle.runs.proofs.Own.{strings}
 
 -- the strings of a sound image, and a node

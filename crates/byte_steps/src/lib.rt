@@ -3,10 +3,10 @@ ghost use mathlib.Core.Path.{_≡_};
 ghost use Prim.Native.Nat.{_+_, _*_, _/_, _≤_};
 ghost use Rattle.meaning.specs.Strings.{ones};
 ghost use Rattle.meaning.specs.Bytes.{bitsFrom};
-ghost use Rattle.counts.specs.Says.{Says};
+ghost use Rattle.parts.specs.Says.{Says};
 ghost use Rattle.byte_steps.specs.Steps.{StepAt};
-use bits::bit_at;
-use bits::ones_in_byte;
+use bit::bit_at;
+use byte::ones_in_byte;
 
 // Of n bits of R1 from byte `at1` on, which `ones1` ones come before, and n of R0 from `at0` on, which `ones0` come before: is R1 in step with R0 at each of them? Bit by bit.
 fn bits_in_step(b: &[u8], at1: usize, at0: usize, n: usize, ones1: usize, ones0: usize) -> bool

@@ -1,168 +1,175 @@
-// Runs the cases of document 01, "Twelve checked by hand", through the public calls, in their order, and prints what came back; then traps and
-// refusals of strings and packs. Each lent list is longer than it need be, and filled with 9s: what is not written must stay.
-ghost use Prim.Native.Nat.{_<_, _≤_};
+// Runs a script of cases, which it reads: each line is a word and numbers (crate `script`), the words told apart by their first letters; any other line
+// is a remark. A tree, and bytes in hand (a string, a pack or an image), stay from line to line. Each line is printed, and below it what the public call
+// came to and every list that it wrote to, whole. Such a list holds 9s before the call: what is not written must stay. A number that a line lacks is 0, and
+// a size is cut to what there is, so that every script is safe to run.
+ghost use Prim.Native.Nat.{_<_};
 ghost use lib.ListN.{length};
+use meaning::Answer;
+use script::number;
+use script::room;
+use script::signed;
+use script::size;
+use show::Digest;
+use std::num::wrapping_add_u32;
 
-fn made(text: &[u8], parents: &[u32]) {
-    let mut bytes = [9u8; 4];
-    show::asked(text);
-    show::answered(parlaqen::plq_string_of_parents(parents, &mut bytes));
-    show::bytes(&bytes);
+fn call_bytes(letter: u8, numbers: &[u32], parents: &[u32], list: &mut [u8]) -> Answer {
+    match letter {
+        b'e' => parlaqen::plq_string_of_parents(parents, list),
+        b'i' => parlaqen::plq_image_of_parents(parents, list),
+        _ => parlaqen::plq_join(list, size(numbers, 2), size(numbers, 3), parents),
+    }
 }
 
-fn read(text: &[u8], bytes: &[u8], bits: usize) {
-    let mut parents = [9u32; 8];
-    show::asked(text);
-    show::answered(parlaqen::plq_parents_of_string(bytes, bits, &mut parents));
-    show::words(&parents);
+fn make_in(letter: u8, numbers: &[u32], parents: &[u32], list: &mut [u8]) {
+    show::answered(call_bytes(letter, numbers, parents, list));
+    show::bytes(list);
 }
 
-fn split(text: &[u8], bytes: &[u8], bits: usize, trees: usize) {
-    let mut starts = [9u32; 3];
-    let mut sizes = [9u32; 3];
-    show::asked(text);
-    show::answered(parlaqen::plq_split(bytes, bits, trees, &mut starts, &mut sizes));
-    show::words(&starts);
-    show::words(&sizes);
+// encode NODES ROOM             the tree's string, in hand
+// image NODES ROOM              the tree's image, in hand
+// join NODES ROOM BITS TREES    the tree's string behind the pack in hand
+fn make(letter: u8, numbers: &[u32], parents: &[u32], bytes: &mut [u8]) {
+    let n = room(numbers, 0, parents.len());
+    let m = room(numbers, 1, bytes.len());
+    script::alter(letter, numbers, bytes);
+    make_in(letter, numbers, &parents[0..n], &mut bytes[0..m]);
 }
 
-fn join(text: &[u8], first: u8, bits: usize, trees: usize, parents: &[u32]) {
-    let mut pack = [9u8; 4];
-    pack[0] = first;
-    show::asked(text);
-    show::answered(parlaqen::plq_join(&mut pack, bits, trees, parents));
-    show::bytes(&pack);
+// Has every question ask about one node.
+fn name_node(asked: &mut [i32], node: i32) {
+    let mut at: usize = 1;
+    while at < asked.len() {
+        asked[at] = node;
+        at += 3;
+    }
 }
 
-// Block number i of an image: the first byte of its bits, and s and t in eight bytes.
-fn block(image: &[u8], i: usize)
-    requires { ⌜ i < 5 ⌝ }
-    requires { ⌜ 2560 ≤ length (now image) ⌝ }
+fn after_answers(before: Digest, image: &[u8], asked: &[i32]) -> Digest {
+    let mut answers = [9u32; 27];
+    parlaqen::plq_ask(image, asked, &mut answers);
+    show::after_words(before, &answers)
+}
+
+// nodes BYTES FIRST NODES NUMBER..    26 questions about each of so many nodes, in place of the node that they name, with room for 27 answers:
+//                                     all these lists in sum
+fn nodes(numbers: &[u32], image: &[u8]) {
+    let mut asked = [0i32; 78];
+    let mut d = Digest {
+        nines: 0,
+        s: 0,
+        t: 0,
+    };
+    script::put_signed(numbers, 3, &mut asked);
+    for i in 0..number(numbers, 2) {
+        name_node(&mut asked, signed(wrapping_add_u32(number(numbers, 1), i)));
+        d = after_answers(d, image, &asked);
+    }
+    show::summed(d);
+}
+
+fn ask(numbers: &[u32], image: &[u8], list: &mut [u32]) -> Answer {
+    let mut asked = [0i32; 1024];
+    let n = script::put_signed(numbers, 2, &mut asked);
+    parlaqen::plq_ask(image, &asked[0..n], list)
+}
+
+fn call_words(letter: u8, numbers: &[u32], bytes: &[u8], list: &mut [u32]) -> Answer {
+    match letter {
+        b'd' => parlaqen::plq_parents_of_string(bytes, size(numbers, 2), list),
+        b'u' => parlaqen::plq_parents_of_image(bytes, list),
+        b'a' => ask(numbers, bytes, list),
+        _ => parlaqen::plq_list(bytes, number(numbers, 2), list),
+    }
+}
+
+fn read_in(letter: u8, numbers: &[u32], parents: &[u32], bytes: &[u8], list: &mut [u32]) {
+    show::answered(call_words(letter, numbers, bytes, list));
+    show::words(list);
+    if letter == b'u' {
+        show::equal(parents, list);
+    }
+}
+
+// decode BYTES ROOM BITS        the parents that the string in hand gives
+// unseal BYTES ROOM             the parents of the image, and how many of them are the tree's
+// ask BYTES ROOM NUMBER..       questions to the image
+// list BYTES ROOM NODE          the listing from a node
+fn read(letter: u8, numbers: &[u32], parents: &[u32], bytes: &[u8]) {
+    let mut list = [9u32; 65536];
+    let n = room(numbers, 1, 65536);
+    read_in(letter, numbers, parents, bytes, &mut list[0..n]);
+}
+
+fn split_in(numbers: &[u32], pack: &[u8], starts: &mut [u32], sizes: &mut [u32]) {
+    show::answered(parlaqen::plq_split(pack, size(numbers, 3), size(numbers, 4), starts, sizes));
+    show::words(starts);
+    show::words(sizes);
+}
+
+// split BYTES ROOM ROOM BITS TREES    the starts and the sizes of the trees of the pack in hand
+fn split(numbers: &[u32], pack: &[u8]) {
+    let mut starts = [9u32; 300];
+    let mut sizes = [9u32; 300];
+    let n = room(numbers, 1, 300);
+    let m = room(numbers, 2, 300);
+    split_in(numbers, pack, &mut starts[0..n], &mut sizes[0..m]);
+}
+
+// view END FROM      some of the bytes in hand
+fn view(numbers: &[u32], bytes: &[u8]) {
+    let from = room(numbers, 1, bytes.len());
+    show::bytes(&bytes[from..]);
+}
+
+// check BYTES        the check of the image
+fn look_at(letter: u8, numbers: &[u32], parents: &[u32], bytes: &[u8]) {
+    match letter {
+        b'c' => show::answered(parlaqen::plq_check_image(bytes)),
+        b'd' | b'u' | b'a' | b'l' => read(letter, numbers, parents, bytes),
+        b'n' => nodes(numbers, bytes),
+        b's' => split(numbers, bytes),
+        b'v' => view(numbers, bytes),
+        _ => {}
+    }
+}
+
+fn look(letter: u8, numbers: &[u32], parents: &[u32], bytes: &[u8]) {
+    let n = room(numbers, 0, bytes.len());
+    look_at(letter, numbers, parents, &bytes[0..n]);
+}
+
+fn obey(letter: u8, numbers: &[u32], parents: &mut [u32], bytes: &mut [u8]) {
+    match letter {
+        b'p' | b'g' | b'b' | b'm' => script::plant(letter, numbers, parents),
+        b'h' | b'f' | b'r' => script::alter(letter, numbers, bytes),
+        b'e' | b'i' | b'j' => make(letter, numbers, parents, bytes),
+        _ => look(letter, numbers, parents, bytes),
+    }
+}
+
+fn step(line: &[u8], parents: &mut [u32], bytes: &mut [u8])
+    requires { ⌜ 0 < length (now line) ⌝ }
 {
-    let at = 512 * i;
-    show::bytes(&image[at + 4..at + 5]);
-    show::bytes(&image[at + 504..at + 512]);
+    let mut numbers = [0u32; 1024];
+    let n = script::numbers_of(line, &mut numbers);
+    obey(line[0], &numbers[0..n], parents, bytes);
 }
 
-fn blocks(image: &[u8])
-    requires { ⌜ 2560 ≤ length (now image) ⌝ }
-{
-    block(image, 0);
-    block(image, 1);
-    block(image, 2);
-    block(image, 3);
-    block(image, 4);
+fn run(text: &[u8], parents: &mut [u32], bytes: &mut [u8]) {
+    let mut at: usize = 0;
+    while at < text.len() {
+        let end = script::line_end(text, at);
+        io::write_all(1, &text[at..end]);
+        step(&text[at..end], parents, bytes);
+        at = end;
+    }
 }
 
-// An image of five blocks: checked and read back.
-fn opened(image: &[u8]) {
-    let mut parents = [9u32; 8];
-    show::answered(parlaqen::plq_check_image(image));
-    show::answered(parlaqen::plq_parents_of_image(image, &mut parents));
-    show::words(&parents);
-}
-
-fn sealed(text: &[u8], parents: &[u32]) {
-    let mut image = [9u8; 2562];
-    show::asked(text);
-    show::answered(parlaqen::plq_image_of_parents(parents, &mut image));
-    blocks(&image);
-    show::bytes(&image[2560..2562]);
-    opened(&image[0..2560]);
-}
-
-// Questions to T's image, at most five.
-fn ask(text: &[u8], questions: &[i32]) {
-    let mut image = [0u8; 2560];
-    let mut answers = [9u32; 6];
-    show::asked(text);
-    parlaqen::plq_image_of_parents(&[0, 1, 1, 1, 2, 2, 4], &mut image);
-    show::answered(parlaqen::plq_ask(&image, questions, &mut answers));
-    show::words(&answers);
-}
-
-fn list(text: &[u8], node: u32) {
-    let mut image = [0u8; 2560];
-    let mut pairs = [9u32; 15];
-    show::asked(text);
-    parlaqen::plq_image_of_parents(&[0, 1, 1, 1, 2, 2, 4], &mut image);
-    show::answered(parlaqen::plq_list(&image, node, &mut pairs));
-    show::words(&pairs);
-}
-
-fn one_to_three() {
-    made(b"1: T", &[0, 1, 1, 1, 2, 2, 4]);
-    read(b"1: T back", &[187, 32], 15);
-    sealed(b"1 and 2: T's image", &[0, 1, 1, 1, 2, 2, 4]);
-    made(b"3: one node", &[0]);
-    read(b"3: 100", &[128], 3);
-    sealed(b"3: its image", &[0]);
-}
-
-fn four_to_six() {
-    made(b"4: a path of 3", &[0, 1, 2]);
-    read(b"4: 1010100", &[168], 7);
-    sealed(b"4: its image", &[0, 1, 2]);
-    made(b"5: a star of 4", &[0, 1, 1, 1]);
-    read(b"5: 101110000", &[184, 0], 9);
-    sealed(b"5: its image", &[0, 1, 1, 1]);
-    made(b"6: 0 1 2 1", &[0, 1, 2, 1]);
-    made(b"6: 0 2", &[0, 2]);
-}
-
-fn seven_to_nine() {
-    read(b"7: 110", &[192], 3);
-    read(b"7: 10", &[128], 2);
-    read(b"7: 1000", &[128], 4);
-    read(b"7: no bits", &[], 0);
-    split(b"8: 100100 with 2", &[144], 6, 2);
-    split(b"8: 100100 with 1", &[144], 6, 1);
-    split(b"9: 101100100 with 1", &[178, 0], 9, 1);
-    split(b"9: its third bit changed", &[146, 0], 9, 1);
-}
-
-fn ten_to_twelve() {
-    ask(
-        b"10: parent of 7, first and last child of 2, child 2 of 2, is 3 a leaf",
-        &[1, 7, 0, 2, 2, 0, 3, 2, 0, 8, 2, 2, 9, 3, 0],
-    );
-    ask(b"11: from 2, +2 +3 -1", &[10, 2, 2, 10, 2, 3, 10, 2, -1]);
-    split(b"12: no bits", &[], 0, 0);
-}
-
-fn traps() {
-    read(b"10010", &[144], 5);
-    read(b"a leftover bit is set", &[129], 3);
-    read(b"one byte too many", &[128, 0], 3);
-    read(b"bits without end", &[128], 18446744073709551615);
-    made(b"no numbers", &[]);
-    split(b"four trees in lists of three", &[146, 64], 12, 4);
-    split(b"257 trees", &[], 0, 257);
-    list(b"T's listing", 1);
-    list(b"of no node", 8);
-}
-
-fn joined() {
-    join(b"to no bits, one node", 0, 0, 0, &[0]);
-    join(b"to 100, one node", 128, 3, 1, &[0]);
-    join(b"to 100, T", 128, 3, 1, &[0, 1, 1, 1, 2, 2, 4]);
-    join(b"to 100 said to be two trees", 128, 3, 2, &[0]);
-    join(b"to 10", 128, 2, 1, &[0]);
-    join(b"to 100, 0 2", 128, 3, 1, &[0, 2]);
-    join(
-        b"to 100, sixteen nodes: no room",
-        128,
-        3,
-        1,
-        &[0, 1, 1, 1, 1, 1, 1, 1, 1, 1, 1, 1, 1, 1, 1, 1],
-    );
-}
-
+// There is room for one node and one block more than a tree and an image may have.
 fn main() {
-    one_to_three();
-    four_to_six();
-    seven_to_nine();
-    ten_to_twelve();
-    traps();
-    joined();
+    let mut text = io::large_buffer();
+    let mut parents = [0u32; 65536];
+    let mut bytes = [0u8; 27648];
+    let n = io::read_full(0, &mut text);
+    run(&text[..n], &mut parents, &mut bytes);
 }

@@ -1,9 +1,8 @@
--- What a string of an image is checked for, and what the crates above use of its parts.
+-- What a string of an image is checked for.
 use mathlib.Core.List.{List}
 use Prim.Native.Nat.{ℕ}
 use Rattle.meaning.specs.Image.{stringIn}
 use Rattle.theory.specs.Stages.{Ended, Kept}
-pub use Rattle.parts.specs.Parts.{ZeroBytes, onesTo, Counted}
 
 -- a string of n bits, from block `first` on: its blocks, and m ones
 pub record StringRight (bytes : List ℕ) (first n m : ℕ) : Type 0 where

@@ -7,12 +7,11 @@ ghost use Rattle.theory.specs.Stages.{Ended, Kept};
 ghost use Rattle.parts.specs.Says.{Says};
 ghost use Rattle.parts.specs.Parts.{Counted};
 ghost use Rattle.counts.specs.Parts.{StringRight};
-use bits::ones_from;
-use blocks::word;
+use image_words::word;
 use keeping::counts_kept;
 use keeping::rest_zero;
-pub use parts::string_bit;
-pub use parts::zeros_between;
+use parts::string_bit;
+use tally::ones_from;
 
 // Does each block of the string of n bits have the number of earlier ones, and zeros after the last bit?
 fn string_kept(b: &[u8], first: usize, n: usize) -> bool

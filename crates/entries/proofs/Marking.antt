@@ -11,9 +11,10 @@ use Rattle.meaning.specs.Parents.{IsParents, badEntry}
 use Rattle.theory.specs.Layout.{AreBytes}
 use Rattle.theory.proofs.Parents.{Later, later-lower, rule-later}
 use Rattle.theory.proofs.Forms.{string-size}
-use Rattle.theory.proofs.Promises.{lowest-entry}
-use Rattle.bits.specs.Appended.{appended, lit}
-use Rattle.bits.proofs.Appending.{lit-length, lit-appended, appended-over}
+use Rattle.theorems.proofs.Promises.{lowest-entry}
+use Rattle.appending.specs.Appended.{appended}
+use Rattle.bit.specs.Lit.{lit}
+use Rattle.appending.proofs.Appending.{lit-length, lit-appended, appended-over}
 
 -- ---- entries that never fall, from z on, and never pass n
 

@@ -3,7 +3,7 @@ ghost use mathlib.Core.Path.{_≡_};
 ghost use Prim.Native.Nat.{_+_, _*_, _≤_};
 ghost use Rattle.meaning.specs.Parents.{badEntry};
 ghost use Rattle.meaning.specs.Strings.{stringOf};
-ghost use Rattle.bits.specs.Appended.{appended};
+ghost use Rattle.appending.specs.Appended.{appended};
 
 fn wide(x: u32) -> usize
     ensures { λ r. ⌜ r ≡ x ⌝ }
@@ -46,10 +46,10 @@ pub fn write_string(buf: &mut [u8], from: usize, ps: &[u32])
     requires { do ⌜ from + (2 * (← ⟦ps.len()⟧) + 1) ≤ 8 * (← ⟦buf.len()⟧) ⌝ }
     ensures { λ _. ⌜ now (buf .exit) ≡ appended (now (buf .entry)) from (stringOf (now (ps .entry))) ⌝ }
 {
-    bits::blank(buf, from, 2 * ps.len() + 1);
+    appending::blank(buf, from, 2 * ps.len() + 1);
     let mut i: usize = 0;
     while i < ps.len() {
-        bits::set_bit(buf, from + i + wide(ps[i]));
+        bit::set_bit(buf, from + i + wide(ps[i]));
         i += 1;
     }
 }

@@ -14,10 +14,10 @@ use Rattle.theory.specs.Rank.{onesLeft, position}
 use Rattle.theory.specs.ByStrings.{bitOf, within, before, parentOf, childBy, byStrings}
 use Rattle.theory.specs.Stages.{readR1, readR0}
 use Rattle.theory.proofs.ByStrings.{within-there, within-low, within-high}
-use Rattle.image.specs.declared.Image.{Image}
-use Rattle.image.specs.declared.Checked.the-variants.{Sound}
-use Rattle.image.specs.Checked.{checked}
-use Rattle.bits.proofs.Values.{is-I}
+use Rattle.checked.specs.declared.Image.{Image}
+use Rattle.checked.specs.declared.Checked.the-variants.{Sound}
+use Rattle.checked.specs.Checked.{checked}
+use Rattle.bit.proofs.Values.{is-I}
 use Rattle.signs.specs.Values.{moved}
 use Rattle.runs.proofs.Counting.{left-next, left-after-one, position-less}
 use Rattle.runs.proofs.Own.{strings, more0, placed1}

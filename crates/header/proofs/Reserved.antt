@@ -6,7 +6,7 @@ use native.Mathlib.Omega.{arith}
 use lib.ListN.{length, getD}
 use Rattle.theory.specs.Layout.{wordAt}
 use Rattle.theory.specs.Stages.{Header, nodesOf, marksOf, blocksNeeded}
-use Rattle.counts.specs.Parts.{ZeroBytes}
+use Rattle.parts.specs.Parts.{ZeroBytes}
 
 -- ---- the reserved words
 

@@ -2,10 +2,10 @@
 ghost use mathlib.Core.Path.{_≡_};
 ghost use Prim.Native.Nat.{_*_, _≤_};
 ghost use Rattle.theory.specs.Stages.{Header};
-ghost use Rattle.counts.specs.Says.{Says};
+ghost use Rattle.parts.specs.Says.{Says};
 use blocks::blocks_needed;
-use blocks::word;
-use counts::zeros_between;
+use image_words::word;
+use parts::zeros_between;
 
 // Is block 0 right: version, n, m, the number of blocks, and zeros behind them?
 pub fn header_right(b: &[u8], blocks: usize) -> bool

@@ -11,9 +11,9 @@ use Rattle.meaning.specs.Scan.{many, place}
 use Rattle.meaning.specs.Packs.{sizes}
 use Rattle.meaning.specs.declared.Answer.{Answer}
 use Rattle.meaning.specs.Answers.{Row, refusedWith, cameTo, settle}
-use Rattle.theory.specs.Promises.{NoneHolds}
+use Rattle.theory.specs.Rows.{NoneHolds}
 use Rattle.theory.proofs.Settled.{unequal, equal, settle-here, settle-on}
-use Rattle.strings.proofs.Codes.{not-unequal}
+use Rattle.theory.proofs.Codes.{not-unequal}
 use Rattle.pack_scan.specs.Found.{trees, refused, found}
 use Rattle.pack_scan.proofs.Telling.{found-trees, found-refused}
 use Rattle.holding.specs.declared.Held.the-variants.{Trees, Refused}

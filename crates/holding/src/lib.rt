@@ -6,12 +6,26 @@ ghost use Rattle.meaning.specs.Bytes.{bitsFrom};
 ghost use Rattle.meaning.specs.Packs.{sizes, starts};
 ghost use Rattle.holding.specs.Rows.{firstOf, packRows};
 ghost use Rattle.holding.specs.declared.Held.the-variants.{Trees};
+ghost use Rattle.pack_scan.specs.Found.{found, foundOf};
 use meaning::LEFTOVER_SET;
 use meaning::NOT_STRING;
 use meaning::OTHER_TREES;
 use pack_scan::Pack;
-use pack_scan::scan_pack;
-use strings::leftover_set;
+use pack_scan::scan_trees;
+use reading::leftover_set;
+use scan::FALLS;
+
+// The same, with one copy of the table for all trees.
+pub fn scan_pack(b: &[u8], n: usize, firsts: &mut [u32], counts: &mut [u32]) -> Pack
+    requires { do ⌜ n ≤ 8 * (← ⟦b.len()⟧) ⌝ }
+    requires { ⌜ n ≤ 131071 ⌝ }
+    ensures { λ r. ⌜ foundOf r ≡ found (bitsFrom (now (b .entry)) 0 n) ⌝ }
+    ensures { λ _. ⌜ now (firsts .exit) ≡ sets (now (firsts .entry)) 0 (starts (bitsFrom (now (b .entry)) 0 n)) ⌝ }
+    ensures { λ _. ⌜ now (counts .exit) ≡ sets (now (counts .entry)) 0 (sizes (bitsFrom (now (b .entry)) 0 n)) ⌝ }
+{
+    let falls = FALLS;
+    scan_trees(b, n, &falls, firsts, counts)
+}
 
 // As many trees as there should be, or a code and its place.
 pub enum Held {

@@ -4,12 +4,14 @@ ghost use Prim.Native.Nat.{_*_, _≤_};
 ghost use Rattle.meaning.specs.Answers.{cameTo};
 ghost use Rattle.meaning.specs.Calls.{checkImage};
 ghost use Rattle.theory.specs.Stages.{Header};
-ghost use Rattle.image.specs.Checked.{answered, checked, imageIn};
+ghost use Rattle.checked.specs.Checked.{checked, imageIn};
 use blocks::sample_blocks;
 use blocks::samples_from;
-use blocks::word;
-use blocks::wrong_block;
 use blocks::zeros_from;
+use checked::Checked;
+use checked::Image;
+use checked::refusal_of;
+use image_words::word;
 use meaning::Answer;
 use meaning::FEWEST_BLOCKS;
 use meaning::MOST_BLOCKS;
@@ -17,34 +19,8 @@ use meaning::NOT_IMAGE;
 use meaning::WRONG_SIZE;
 use meaning::WRONG_SUMS;
 use meaning::done;
-use meaning::refuse;
 use stages::stages_pass;
-
-// What a checked image is: n and m, its blocks, and the blocks at which R0 and the samples of R1 and of R0 begin.
-pub struct Image {
-    pub nodes: u32,
-    pub marks: u32,
-    pub blocks: u32,
-    pub zeros: u32,
-    pub samples1: u32,
-    pub samples0: u32,
-}
-
-// What the check finds: a sound image, or the code and the place of the refusal.
-pub enum Checked {
-    Sound(Image),
-    Refused(u32, u32),
-}
-
-// Document 01's numbers for what the check found.
-pub fn refusal_of(c: Checked) -> Answer
-    ensures { λ r. ⌜ r ≡ answered c ⌝ }
-{
-    match c {
-        Checked::Sound(image) => done(image.nodes, image.marks),
-        Checked::Refused(code, place) => refuse(code, place),
-    }
-}
+use wrong_blocks::wrong_block;
 
 // n, m and where the parts of an image begin, from a header that is right.
 fn image_in(b: &[u8], blocks: usize) -> Image

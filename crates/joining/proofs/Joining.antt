@@ -16,7 +16,7 @@ use Rattle.meaning.specs.Calls.{joinPack}
 use Rattle.theory.proofs.Settled.{settle-here, settle-on, settle-none}
 use Rattle.theory.proofs.Forms.{string-size}
 use Rattle.theory.proofs.Packing.{bits-length, packed-length}
-use Rattle.bits.specs.Appended.{appended}
+use Rattle.appending.specs.Appended.{appended}
 use Rattle.holding.specs.declared.Held.the-variants.{Trees, Refused}
 use Rattle.holding.specs.Rows.{packRows, firstOf}
 use Rattle.holding.proofs.Rows.{settle-refused, none-first, settle-past}

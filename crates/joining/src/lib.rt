@@ -2,6 +2,8 @@
 ghost use mathlib.Core.Path.{_≡_};
 ghost use Rattle.meaning.specs.Answers.{cameTo};
 ghost use Rattle.meaning.specs.Calls.{joinPack};
+use entries::bad_entry;
+use entries::write_string;
 use holding::Held;
 use holding::trees_held;
 use meaning::Answer;
@@ -11,8 +13,6 @@ use meaning::WRONG_SIZE;
 use meaning::done;
 use meaning::refuse;
 use sizes::wrong_to_join;
-use strings::bad_entry;
-use strings::write_string;
 
 // Adds a tree to the pack that the first bits of a lent buffer hold.
 pub fn join(pack: &mut [u8], bits: usize, trees: usize, parents: &[u32]) -> Answer

@@ -3,9 +3,9 @@ ghost use Prim.Native.Nat.{_+_, _*_, _≤_};
 ghost use Rattle.meaning.specs.Image.{stringBlocks};
 ghost use Rattle.parts.specs.Says.{Says};
 ghost use Rattle.parts.specs.Parts.{Counted, Unused};
-use bits::ones_from;
-use blocks::word;
+use image_words::word;
 use parts::zeros_between;
+use tally::ones_from;
 
 // Is word 0 of each block of the string of n bits the number of ones in earlier blocks?
 pub fn counts_kept(b: &[u8], first: usize, n: usize) -> bool

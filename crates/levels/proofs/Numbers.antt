@@ -23,11 +23,11 @@ use Rattle.theory.proofs.Forms.{length-parents, string-parents}
 use Rattle.theory.proofs.Navigate.{counted, children-are, ones-before-is, onesBefore-mono, ranked}
 use Rattle.theory.proofs.TreeImages.{is-image, parents-in}
 use Rattle.theory.proofs.Stages.{image-stages, parts-read}
-use Rattle.image.specs.declared.Image.{Image}
-use Rattle.image.specs.declared.Checked.the-variants.{Sound}
-use Rattle.image.specs.Checked.{checked}
-use Rattle.image.proofs.Finding.{sound-known}
-use Rattle.bits.proofs.Values.{is-O, is-I, value-le}
+use Rattle.checked.specs.declared.Image.{Image}
+use Rattle.checked.specs.declared.Checked.the-variants.{Sound}
+use Rattle.checked.specs.Checked.{checked}
+use Rattle.checked.proofs.Finding.{sound-known}
+use Rattle.bit.proofs.Values.{is-O, is-I, value-le}
 use Rattle.runs.proofs.Own.{strings}
 use Rattle.levels.specs.Levels.{low}
 

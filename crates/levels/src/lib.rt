@@ -4,12 +4,12 @@ ghost use Prim.Native.Nat.{_-_, _≤_};
 ghost use lib.ListN.{length};
 ghost use Rattle.meaning.specs.Image.{parentsIn};
 ghost use Rattle.meaning.specs.Listing.{listing};
-ghost use Rattle.image.specs.declared.Checked.the-variants.{Sound};
-ghost use Rattle.image.specs.Checked.{checked};
+ghost use Rattle.checked.specs.declared.Checked.the-variants.{Sound};
+ghost use Rattle.checked.specs.Checked.{checked};
 ghost use Rattle.levels.specs.Levels.{below, sizeOf, WhereFits};
 ghost use Rattle.levels.specs.Cursors.{Ready};
-use image::Image;
-use kinds::ones_before_zero;
+use checked::Image;
+use families::ones_before_zero;
 
 // What a listing takes: how many nodes it has, or the first node that it would have at depth 64.
 pub enum Measured {

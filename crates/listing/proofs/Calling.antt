@@ -14,11 +14,11 @@ use Rattle.meaning.specs.Questions.{isNode}
 use Rattle.meaning.specs.Listing.{listing, deep}
 use Rattle.meaning.specs.Calls.{listImage}
 use Rattle.theory.proofs.Settled.{settle-here, settle-on, settle-none}
-use Rattle.image.specs.declared.Image.{Image}
-use Rattle.image.specs.declared.Checked.{Checked}
-use Rattle.image.specs.declared.Checked.the-variants.{Sound, Refused}
-use Rattle.image.specs.Checked.{checked}
-use Rattle.image.proofs.Finding.{comesTo, rows-checked}
+use Rattle.checked.specs.declared.Image.{Image}
+use Rattle.checked.specs.declared.Checked.{Checked}
+use Rattle.checked.specs.declared.Checked.the-variants.{Sound, Refused}
+use Rattle.checked.specs.Checked.{checked}
+use Rattle.checked.proofs.Finding.{comesTo, rows-checked}
 use Rattle.levels.specs.declared.Measured.{Measured}
 use Rattle.levels.specs.declared.Measured.the-variants.{Fits, TooDeep}
 use Rattle.levels.specs.Levels.{low, sized, sizeOf, WhereFits}

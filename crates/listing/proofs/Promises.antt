@@ -18,8 +18,8 @@ use Rattle.theory.specs.Walks.{nodeAt, everything, Lists}
 use Rattle.theory.proofs.Settled.{settle-here, settle-on, settle-none}
 use Rattle.theory.proofs.Forms.{length-parents}
 use Rattle.theory.proofs.TreeImages.{parents-in}
-use Rattle.theory.proofs.Promises.{own-listing}
-use Rattle.image.proofs.Promises.{tree-passed}
+use Rattle.theorems.proofs.Promises.{own-listing}
+use Rattle.checked.proofs.Promises.{tree-passed}
 use Rattle.listing.specs.Promises as P
 
 -- ---- listings

@@ -2,18 +2,18 @@
 ghost use mathlib.Core.Path.{_≡_};
 ghost use Rattle.meaning.specs.Answers.{cameTo};
 ghost use Rattle.meaning.specs.Calls.{listImage};
-use image::Checked;
+use checked::Checked;
+use checked::refusal_of;
 use image::check;
-use image::refusal_of;
 use levels::Measured;
 use levels::measure;
+use listing_writer::write_listing;
 use meaning::Answer;
 use meaning::NO_ROOM;
 use meaning::NOT_ALLOWED;
 use meaning::TOO_DEEP;
 use meaning::done;
 use meaning::refuse;
-use writer::write_listing;
 
 // The listing of a node: all that may refuse it is found before anything is written.
 pub fn list(b: &[u8], node: u32, out: &mut [u32]) -> Answer

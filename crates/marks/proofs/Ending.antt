@@ -20,11 +20,11 @@ use Rattle.theory.proofs.Forms.{position-split}
 use Rattle.theory.proofs.Navigate.{position-zero}
 use Rattle.theory.proofs.Packing.{bits-length}
 use Rattle.theory.proofs.Payloads.{ones-le, length-samples, sample-at}
-use Rattle.bits.specs.Appended.{byteBits}
-use Rattle.bits.proofs.Byte.{digit, byte-digit, number-digit}
-use Rattle.bits.proofs.Appending.{set-bit-same, set-bit-other}
-use Rattle.bits.proofs.Counting.{number-ones}
-use Rattle.blocks.specs.Sealed.{withWord}
+use Rattle.byte.specs.Byte.{byteBits}
+use Rattle.byte.proofs.Byte.{digit, byte-digit, number-digit}
+use Rattle.appending.proofs.Appending.{set-bit-same, set-bit-other}
+use Rattle.byte.proofs.Counting.{number-ones}
+use Rattle.image_words.specs.Words.{withWord}
 use Rattle.ends.specs.Listed.{marksIn}
 use Rattle.ends.proofs.Lists.{never}
 use Rattle.ends.proofs.Entries.{length-ends}

@@ -1,6 +1,2 @@
 pub mod Placing
-pub mod Parting
 pub mod Ending
-pub mod Gapping
-pub mod Following
-pub mod Running

@@ -14,8 +14,8 @@ use Rattle.meaning.specs.Bytes.{bit, bitAt}
 use Rattle.meaning.specs.Blocks.{le32}
 use Rattle.theory.specs.Layout.{wordAt}
 use Rattle.theory.proofs.Digits.{wordAt-append, le32-first}
-use Rattle.bits.specs.Appended.{lit}
-use Rattle.blocks.specs.Sealed.{withWord}
+use Rattle.bit.specs.Lit.{lit}
+use Rattle.image_words.specs.Words.{withWord}
 
 -- ---- of the numbers up to i, those other than i are lower
 

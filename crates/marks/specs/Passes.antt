@@ -12,8 +12,8 @@ use Rattle.meaning.specs.Image.{stringBlocks, samples}
 use Rattle.theory.specs.Layout.{wordAt, bitPlace, samplePlace}
 use Rattle.theory.specs.Rank.{position}
 use Rattle.theory.specs.Stages.{blocksOfSamples, zerosFrom, samplesFrom, blocksNeeded}
-use Rattle.bits.specs.Appended.{byteBits}
-use Rattle.blocks.specs.Sealed.{withWord}
+use Rattle.byte.specs.Byte.{byteBits}
+use Rattle.image_words.specs.Words.{withWord}
 use Rattle.ends.specs.Listed.{marksIn}
 
 -- ---- a string in an image

@@ -15,12 +15,12 @@ use Rattle.meaning.specs.Image.{isImage, parentsIn}
 use Rattle.meaning.specs.Listing.{listing, deep}
 use Rattle.meaning.specs.Calls.{wrongSize, checkImage, listImage}
 use Rattle.theory.proofs.Stages.{image-stages}
-use Rattle.image.specs.declared.Image.{Image}
-use Rattle.image.specs.declared.Checked.{Checked}
-use Rattle.image.specs.declared.Checked.the-variants.{Sound, Refused}
-use Rattle.image.specs.Checked.{answered, checked, imageIn}
-use Rattle.image.proofs.Finding.{sound-known}
-use Rattle.image.proofs.Calling.{image-answered}
+use Rattle.checked.specs.declared.Image.{Image}
+use Rattle.checked.specs.declared.Checked.{Checked}
+use Rattle.checked.specs.declared.Checked.the-variants.{Sound, Refused}
+use Rattle.checked.specs.Checked.{answered, checked, imageIn}
+use Rattle.checked.proofs.Finding.{sound-known}
+use Rattle.checked.proofs.Calling.{image-answered}
 use Rattle.levels.specs.Levels.{low, sized, sizeOf}
 use Rattle.levels.proofs.Levels.{listing-less}
 use Rattle.levels.proofs.Numbers.{low-mono, low-kids}

@@ -24,9 +24,9 @@ use Rattle.theory.proofs.Parents.{parents-are}
 use Rattle.theory.proofs.Forms.{length-parents}
 use Rattle.theory.proofs.TreeImages.{parents-in}
 use Rattle.theory.proofs.Addresses.{first-node, degree-at}
-use Rattle.theory.proofs.Promises.{part-counts}
-use Rattle.image.proofs.Finding.{found-size}
-use Rattle.image.proofs.Promises.{tree-checked}
+use Rattle.theorems.proofs.Promises.{part-counts}
+use Rattle.checked.proofs.Finding.{found-size}
+use Rattle.checked.proofs.Promises.{tree-checked}
 use Rattle.listing.proofs.Promises.{listed-of-tree, lists-length, too-deep-is-named}
 use Rattle.text.specs.Text.{digits, decimal}
 use Rattle.lines.specs.Lines.{heading, nodeLine, nodeLines, refusal}

@@ -12,11 +12,11 @@ use Rattle.theory.specs.Walks.{root, nodeAt, depthFirst, depthFirstOf, everythi
 use Rattle.theory.proofs.Forms.{length-parents}
 use Rattle.theory.proofs.TreeImages.{is-image, parents-in}
 use Rattle.theory.proofs.Addresses.{first-node}
-use Rattle.theory.proofs.Promises.{own-listing}
-use Rattle.image.specs.declared.Image.{Image}
-use Rattle.image.specs.declared.Checked.the-variants.{Sound}
-use Rattle.image.specs.Checked.{checked}
-use Rattle.image.proofs.Finding.{sound-known}
+use Rattle.theorems.proofs.Promises.{own-listing}
+use Rattle.checked.specs.declared.Image.{Image}
+use Rattle.checked.specs.declared.Checked.the-variants.{Sound}
+use Rattle.checked.specs.Checked.{checked}
+use Rattle.checked.proofs.Finding.{sound-known}
 use Rattle.levels.proofs.Numbers.{parents-count}
 use Rattle.listing.proofs.Promises.{lists-length}
 use Rattle.lines.specs.Lines.{Pairs}

@@ -4,13 +4,13 @@ ghost use Prim.Native.Nat.{_≤_};
 ghost use lib.ListN.{length};
 ghost use Rattle.meaning.specs.Answers.{written};
 ghost use Rattle.outline.specs.Outline.{outlineOf};
-use image::Checked;
+use checked::Checked;
+use checked::refusal_of;
 use image::check;
-use image::refusal_of;
 use lines::put_heading;
-use lines::put_nodes;
 use lines::put_refusal;
 use listing::list;
+use node_lines::put_nodes;
 
 // The most nodes of which each has its line.
 const MOST_LISTED: u32 = 4000;

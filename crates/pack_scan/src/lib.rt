@@ -4,11 +4,10 @@ ghost use Prim.Native.Nat.{_*_, _≤_};
 ghost use lib.Seq.{sets};
 ghost use Rattle.meaning.specs.Bytes.{bitsFrom};
 ghost use Rattle.meaning.specs.Packs.{sizes, starts};
-ghost use Rattle.scan.specs.Falls.{Falls};
+ghost use Rattle.falls.specs.Falls.{Falls};
 ghost use Rattle.pack_scan.specs.Found.{found, foundOf};
+use inside::TreeEnd;
 use noting::note;
-use scan::FALLS;
-use scan::TreeEnd;
 use scan::tree_end_by;
 
 // What the bits of a pack hold: so many trees, or the bit at which they are refused.
@@ -18,7 +17,7 @@ pub enum Pack {
 }
 
 // Scans a pack by the table of falls, and notes the first bit and the node count of each tree for which the lists have an entry.
-fn scan_trees(
+pub fn scan_trees(
     b: &[u8],
     n: usize,
     falls: &[[u8; 16]; 16],
@@ -49,16 +48,4 @@ fn scan_trees(
         }
     }
     Pack::Trees(trees as u32)
-}
-
-// The same, with one copy of the table for all trees.
-pub fn scan_pack(b: &[u8], n: usize, firsts: &mut [u32], counts: &mut [u32]) -> Pack
-    requires { do ⌜ n ≤ 8 * (← ⟦b.len()⟧) ⌝ }
-    requires { ⌜ n ≤ 131071 ⌝ }
-    ensures { λ r. ⌜ foundOf r ≡ found (bitsFrom (now (b .entry)) 0 n) ⌝ }
-    ensures { λ _. ⌜ now (firsts .exit) ≡ sets (now (firsts .entry)) 0 (starts (bitsFrom (now (b .entry)) 0 n)) ⌝ }
-    ensures { λ _. ⌜ now (counts .exit) ≡ sets (now (counts .entry)) 0 (sizes (bitsFrom (now (b .entry)) 0 n)) ⌝ }
-{
-    let falls = FALLS;
-    scan_trees(b, n, &falls, firsts, counts)
 }

@@ -24,10 +24,10 @@ use Rattle.theory.proofs.Forms.{length-parents, string-parents}
 use Rattle.theory.proofs.Digits.{same-bits, take-bytes}
 use Rattle.theory.proofs.Packing.{bits-length, bits-at, leftover-bits, bits-leftover, packed-length, packed-bytes, packed-bit, packed-leftover, packed-read}
 use Rattle.theory.proofs.Packs.{string-length, sizes-are, starts-are, found-is, part-is}
-use Rattle.theory.proofs.Promises.{pack-accepted, odd-changes, never-before}
-use Rattle.bits.specs.Appended.{appended}
-use Rattle.bits.proofs.Appending.{appended-length, appended-bytes, appended-new, appended-read}
-use Rattle.strings.proofs.Codes.{not-unequal, none-held, row-held}
+use Rattle.theorems.proofs.Promises.{pack-accepted, odd-changes, never-before}
+use Rattle.appending.specs.Appended.{appended}
+use Rattle.appending.proofs.Appending.{appended-length, appended-bytes, appended-new, appended-read}
+use Rattle.theory.proofs.Codes.{not-unequal, none-held, row-held}
 use Rattle.strings.proofs.Promises.{tree-read}
 use Rattle.pack_scan.specs.Found.{trees, refused, found}
 use Rattle.holding.proofs.Rows.{held-trees}

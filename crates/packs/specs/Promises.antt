@@ -14,7 +14,7 @@ use Rattle.meaning.specs.Packs.{startsOf, sizesOf}
 use Rattle.meaning.specs.Answers.{Outcome, counts, cameTo, written}
 use Rattle.meaning.specs.Calls.{parentsOfString, splitPack, joinPack}
 use Rattle.theory.specs.Layout.{AreBytes}
-use Rattle.theory.specs.Promises.{changed}
+use Rattle.theory.specs.Changes.{changed}
 
 -- ---- Splitting.
 

@@ -1,3 +1,1 @@
-// Packs: strings of trees end to end, split and joined.
-pub use joining::join;
-pub use splitting::split;
+// What splitting and joining promise of packs, strings of trees end to end; no code.

@@ -20,12 +20,12 @@ use Rattle.meaning.specs.Cases.{string-of-parents, parents-of-string, image-of-
 use Rattle.meaning.specs.Calls.{wrongCount, stringOfParents, parentsOfString, imageOfParents, checkRows, checkImage, parentsOfImage, askImage, listImage, splitPack, joinPack}
 use Rattle.theory.proofs.Packing.{bits-length, read-packed}
 use Rattle.theory.proofs.Packs.{found-is}
-use Rattle.theory.proofs.Promises as Theory
-use Rattle.strings.proofs.Codes.{not-unequal, none-held, row-held}
+use Rattle.theorems.proofs.Promises as Theory
+use Rattle.theory.proofs.Codes.{not-unequal, none-held, row-held}
 use Rattle.strings.proofs.Promises as Strings
 use Rattle.packs.specs.Promises.{FitPack}
 use Rattle.packs.proofs.Promises as Packs
-use Rattle.image.proofs.Promises as Images
+use Rattle.checked.proofs.Promises as Images
 use Rattle.unseal.proofs.Promises as Unsealing
 use Rattle.questions.proofs.Promises as Questions
 use Rattle.listing.proofs.Promises as Listings

@@ -21,12 +21,12 @@ use Rattle.meaning.specs.Answers.{Outcome, cameTo}
 use Rattle.meaning.specs.Calls.{splitPack, joinPack}
 use Rattle.meaning.specs.Cases.{Call, string-of-parents, parents-of-string, image-of-parents, parents-of-image, check-image, ask, list, split, join, does}
 use Rattle.theory.specs.Layout.{AreBytes}
-use Rattle.theory.specs.Promises as Theory
-use Rattle.theory.specs.Promises.{changed}
+use Rattle.theorems.specs.Promises as Theory
+use Rattle.theory.specs.Changes.{changed}
 use Rattle.strings.specs.Promises as Strings
 use Rattle.packs.specs.Promises as Packs
 use Rattle.packs.specs.Promises.{FitPack}
-use Rattle.image.specs.Promises as Images
+use Rattle.checked.specs.Promises as Images
 use Rattle.unseal.specs.Promises as Unsealing
 use Rattle.questions.specs.Promises as Questions
 use Rattle.listing.specs.Promises as Listings

@@ -8,14 +8,14 @@ use meaning::Answer;
 pub extern "C" fn plq_string_of_parents(parents: &[u32], bytes: &mut [u8]) -> Answer
     ensures { λ r. ⌜ cameTo r (now (bytes .exit)) ≡ stringOfParents (now (parents .entry)) (now (bytes .entry)) ⌝ }
 {
-    strings::string_of_parents(parents, bytes)
+    encoding::string_of_parents(parents, bytes)
 }
 
 #[no_mangle]
 pub extern "C" fn plq_parents_of_string(bytes: &[u8], bits: usize, parents: &mut [u32]) -> Answer
     ensures { λ r. ⌜ cameTo r (now (parents .exit)) ≡ parentsOfString (now (bytes .entry)) bits (now (parents .entry)) ⌝ }
 {
-    strings::parents_of_string(bytes, bits, parents)
+    decoding::parents_of_string(bytes, bits, parents)
 }
 
 #[no_mangle]
@@ -56,14 +56,14 @@ pub extern "C" fn plq_split(
 ) -> Answer
     ensures { λ r. ⌜ cameTo r (now (starts .exit), now (sizes .exit)) ≡ splitPack (now (bytes .entry)) bits trees (now (starts .entry)) (now (sizes .entry)) ⌝ }
 {
-    packs::split(bytes, bits, trees, starts, sizes)
+    splitting::split(bytes, bits, trees, starts, sizes)
 }
 
 #[no_mangle]
 pub extern "C" fn plq_join(pack: &mut [u8], bits: usize, trees: usize, parents: &[u32]) -> Answer
     ensures { λ r. ⌜ cameTo r (now (pack .exit)) ≡ joinPack (now (pack .entry)) bits trees (now (parents .entry)) ⌝ }
 {
-    packs::join(pack, bits, trees, parents)
+    joining::join(pack, bits, trees, parents)
 }
 
 #[no_mangle]

@@ -17,7 +17,7 @@ use Rattle.theory.specs.Stages.{Kept}
 use Rattle.theory.proofs.Digits.{byte-lt, same-bits}
 use Rattle.theory.proofs.Packing.{bits-of-byte, leftover-bits, bits-leftover}
 use Rattle.theory.proofs.TreeImages.{length-stringIn}
-use Rattle.bits.proofs.Table.{all, at}
+use Rattle.byte.proofs.Table.{all, at}
 use Rattle.parts.specs.Parts.{ZeroBytes, Counted, Unused}
 use Rattle.theory.proofs.InBlocks.{stringIn-take}
 

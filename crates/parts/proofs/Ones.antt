@@ -12,7 +12,7 @@ use Rattle.theory.proofs.Odd.{ones-append}
 use Rattle.theory.proofs.Payloads.{ones-le}
 use Rattle.theory.proofs.TreeImages.{length-stringIn, stringIn-at}
 use Rattle.theory.proofs.InBlocks.{stringIn-cut, stringIn-take, block-more}
-use Rattle.bits.proofs.Runs.{ones-of-bit}
+use Rattle.tally.proofs.Runs.{ones-of-bit}
 use Rattle.parts.specs.Parts.{onesTo}
 
 module _ (bytes : List ℕ) (f : ℕ) where

@@ -4,7 +4,7 @@ ghost use Prim.Native.Nat.{_+_, _*_, _/_, _%_, _≤_, _<_};
 ghost use Rattle.meaning.specs.Bytes.{bitAt, value};
 ghost use Rattle.parts.specs.Says.{Says};
 ghost use Rattle.parts.specs.Parts.{ZeroBytes};
-use bits::bit_at;
+use bit::bit_at;
 
 // Bit i of the string whose blocks begin at block `first`.
 pub fn string_bit(b: &[u8], first: usize, i: usize) -> u8

@@ -13,8 +13,8 @@ use Rattle.meaning.specs.Image.{stringBlocks, stringIn}
 use Rattle.theory.specs.Layout.{wordAt}
 use Rattle.theory.proofs.Packing.{bits-length, bits-at}
 use Rattle.theory.proofs.InBlocks.{no-string, string-ones-le, stringIn-take, full-more}
-use Rattle.bits.proofs.Runs.{bits-ones-le}
-use Rattle.blocks.specs.Sealed.{withWord}
+use Rattle.tally.proofs.Runs.{bits-ones-le}
+use Rattle.image_words.specs.Words.{withWord}
 use Rattle.payloads.specs.Passes.{Counted}
 use Rattle.marks.proofs.Placing.{bit-agree, word-agree, put-length, put-word, put-byte}
 

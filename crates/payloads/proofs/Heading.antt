@@ -6,7 +6,7 @@ use Prim.Native.Nat.{ℕ, zero, suc, _*_, _^_, _≤_, _<_}
 use native.Mathlib.Omega.{arith}
 use lib.ListN.{length, getD}
 use Rattle.theory.specs.Layout.{wordAt}
-use Rattle.blocks.specs.Sealed.{withWord}
+use Rattle.image_words.specs.Words.{withWord}
 use Rattle.marks.proofs.Placing.{word-agree, word-zero, put-length, put-word, put-byte, word-away}
 use Rattle.payloads.specs.Passes.{headed}
 

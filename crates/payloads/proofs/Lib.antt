@@ -1,3 +1,2 @@
 pub mod Heading
 pub mod Counting
-pub mod Preparing

@@ -6,7 +6,7 @@ use lib.ListN.{getD, take}
 use Rattle.meaning.specs.Strings.{ones, R1, R0, stringOf}
 use Rattle.meaning.specs.Image.{stringBlocks, stringIn}
 use Rattle.theory.specs.Layout.{wordAt}
-use Rattle.blocks.specs.Sealed.{withWord}
+use Rattle.image_words.specs.Words.{withWord}
 use Rattle.marks.specs.Passes.{blocksFor}
 use Rattle.payloads.specs.Filled.{Filled}
 

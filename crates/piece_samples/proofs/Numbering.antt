@@ -6,9 +6,9 @@ use native.Mathlib.Decide.{decLt}
 use native.Mathlib.Omega.{arith}
 use Rattle.meaning.specs.Strings.{I, ones}
 use Rattle.meaning.specs.Bytes.{bitAt, bitsFrom}
-use Rattle.theory.specs.Layout.{samplePlace}
-use Rattle.bits.proofs.Runs.{bits-mono}
-use Rattle.sample_words.specs.Words.{sampleIn, NamesOne}
+use Rattle.theory.specs.Layout.{samplePlace, sampleIn}
+use Rattle.tally.proofs.Runs.{bits-mono}
+use Rattle.sample_words.specs.Words.{NamesOne}
 use Rattle.sample_words.proofs.Naming.{one-more}
 use Rattle.piece_samples.specs.Pieces.{PieceSampled}
 

@@ -4,7 +4,7 @@ use mathlib.Core.List.{List}
 use Prim.Native.Nat.{ℕ, _+_, _*_, _/_, _%_, _<_}
 use Rattle.meaning.specs.Strings.{I, ones}
 use Rattle.meaning.specs.Bytes.{bitAt, bitsFrom}
-use Rattle.sample_words.specs.Words.{sampleIn}
+use Rattle.theory.specs.Layout.{sampleIn}
 
 -- a one that k others come before has a sample, its position from 1, if 64 divides k
 abbrev pub SampledHere : List ℕ → ℕ → ℕ → ℕ → Type 0

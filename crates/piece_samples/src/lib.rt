@@ -5,7 +5,7 @@ ghost use Rattle.meaning.specs.Strings.{ones};
 ghost use Rattle.meaning.specs.Bytes.{bitsFrom};
 ghost use Rattle.theory.specs.Layout.{samplePlace};
 ghost use Rattle.theory.specs.Stages.{blocksOfSamples};
-ghost use Rattle.counts.specs.Says.{Says};
+ghost use Rattle.parts.specs.Says.{Says};
 ghost use Rattle.word_table.specs.Table.{CountsBefore};
 ghost use Rattle.piece_samples.specs.Pieces.{PieceSampled};
 use sample_words::sample_right;

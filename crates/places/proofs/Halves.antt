@@ -6,8 +6,8 @@ use lib.ListN.{getD}
 use Rattle.meaning.specs.Strings.{ones}
 use Rattle.meaning.specs.Places.{fourBits, placeRow}
 use Rattle.theory.specs.Rank.{position}
-use Rattle.bits.specs.Appended.{byteBits}
-use Rattle.bits.proofs.Placing.{byte-ones-halves, upper-place, lower-place}
+use Rattle.byte.specs.Byte.{byteBits}
+use Rattle.halves.proofs.Placing.{byte-ones-halves, upper-place, lower-place}
 
 -- the k-th one is in the second half, which is moved to the front
 module _ (x k u : ℕ) (byte : x < 256) (front : u ≡ ones (fourBits (x / 16))) (past : u < k) (there : k ≤ ones (byteBits x)) where

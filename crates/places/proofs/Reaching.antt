@@ -11,9 +11,9 @@ use Rattle.theory.specs.Rank.{position}
 use Rattle.theory.proofs.Forms.{position-split}
 use Rattle.theory.proofs.Odd.{ones-append}
 use Rattle.theory.proofs.Packing.{bits-length, bits-cut, bits-of-byte}
-use Rattle.bits.specs.Appended.{byteBits}
-use Rattle.bits.proofs.Placing.{position-front}
-use Rattle.bits.proofs.Runs.{ones-cut}
+use Rattle.byte.specs.Byte.{byteBits}
+use Rattle.halves.proofs.Placing.{position-front}
+use Rattle.tally.proofs.Runs.{ones-cut}
 
 -- ---- two lists, one behind the other
 

@@ -5,10 +5,10 @@ ghost use lib.ListN.{length};
 ghost use Rattle.meaning.specs.Strings.{ones};
 ghost use Rattle.meaning.specs.Bytes.{bitsFrom};
 ghost use Rattle.theory.specs.Rank.{position};
-ghost use Rattle.bits.specs.Appended.{byteBits};
-use bits::ones_in_byte;
-use bits::ones_in_word;
-use bits::place_in_byte;
+ghost use Rattle.byte.specs.Byte.{byteBits};
+use byte::ones_in_byte;
+use halves::place_in_byte;
+use words::ones_in_word;
 
 // How many bits of the two bytes from `at` on are one.
 fn ones_in_two(b: &[u8], at: usize) -> u32

@@ -15,11 +15,11 @@ use Rattle.meaning.specs.Questions.{questions, notAllowed, answerTo}
 use Rattle.meaning.specs.Calls.{wrongSize, wrongQuestions, checkRows, askImage}
 use Rattle.theory.proofs.Settled.{or-first, or-second, or-neither, unequal, equal, settle-here, settle-on, settle-none}
 use Rattle.theory.proofs.Stages.{parts-read}
-use Rattle.image.specs.declared.Image.{Image}
-use Rattle.image.specs.declared.Checked.{Checked}
-use Rattle.image.specs.declared.Checked.the-variants.{Sound, Refused}
-use Rattle.image.specs.Checked.{checked}
-use Rattle.image.proofs.Finding.{comesTo, rows-checked, sound-known}
+use Rattle.checked.specs.declared.Image.{Image}
+use Rattle.checked.specs.declared.Checked.{Checked}
+use Rattle.checked.specs.declared.Checked.the-variants.{Sound, Refused}
+use Rattle.checked.specs.Checked.{checked}
+use Rattle.checked.proofs.Finding.{comesTo, rows-checked, sound-known}
 use Rattle.allowing.proofs.Turns.{questions-count}
 
 -- ---- the size of the list

@@ -19,8 +19,8 @@ use Rattle.theory.specs.Walks.{nodeAt, Gives}
 use Rattle.theory.proofs.Settled.{settle-on, settle-none}
 use Rattle.theory.proofs.Forms.{length-parents}
 use Rattle.theory.proofs.TreeImages.{parents-in}
-use Rattle.theory.proofs.Promises.{own-answers}
-use Rattle.image.proofs.Promises.{tree-passed}
+use Rattle.theorems.proofs.Promises.{own-answers}
+use Rattle.checked.proofs.Promises.{tree-passed}
 use Rattle.questions.specs.Promises as P
 use Rattle.questions.specs.Promises.{Given, AllGiven}
 

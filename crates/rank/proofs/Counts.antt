@@ -11,9 +11,9 @@ use Rattle.theory.specs.Rank.{onesLeft}
 use Rattle.theory.specs.Stages.{Kept}
 use Rattle.theory.proofs.TreeImages.{length-stringIn}
 use Rattle.theory.proofs.InBlocks.{block-more, full-more}
-use Rattle.bits.proofs.Runs.{ones-after}
-use Rattle.counts.specs.Parts.{onesTo}
-use Rattle.counts.proofs.Ones.{onesTo-take, onesTo-next}
+use Rattle.tally.proofs.Runs.{ones-after}
+use Rattle.parts.specs.Parts.{onesTo}
+use Rattle.parts.proofs.Ones.{onesTo-take, onesTo-next}
 
 -- ---- words
 

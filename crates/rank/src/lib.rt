@@ -7,10 +7,10 @@ ghost use Rattle.meaning.specs.Image.{stringBlocks, stringIn};
 ghost use Rattle.theory.specs.Layout.{wordAt};
 ghost use Rattle.theory.specs.Rank.{onesLeft};
 ghost use Rattle.theory.specs.Stages.{Kept};
-ghost use Rattle.counts.specs.Parts.{onesTo};
-use bits::ones_before;
-use bits::ones_in_word;
-use blocks::word;
+ghost use Rattle.parts.specs.Parts.{onesTo};
+use image_words::word;
+use tally::ones_before;
+use words::ones_in_word;
 
 // How many bits of the k words of eight bytes from `at` on are one.
 fn ones_in_words(b: &[u8], at: usize, k: usize) -> u32

@@ -10,10 +10,10 @@ use Rattle.meaning.specs.Image.{isImage, stringBlocks, stringIn}
 use Rattle.theory.specs.Stages.{Kept, Sampled, blocksOfSamples, readR1, readR0}
 use Rattle.theory.proofs.TreeImages.{is-image, image-size, image-most}
 use Rattle.theory.proofs.Stages.{image-stages}
-use Rattle.image.specs.declared.Image.{Image}
-use Rattle.image.specs.declared.Checked.the-variants.{Sound}
-use Rattle.image.specs.Checked.{checked}
-use Rattle.image.proofs.Finding.{sound-known}
+use Rattle.checked.specs.declared.Image.{Image}
+use Rattle.checked.specs.declared.Checked.the-variants.{Sound}
+use Rattle.checked.specs.Checked.{checked}
+use Rattle.checked.proofs.Finding.{sound-known}
 
 -- a string of n bits, m of them ones, from block `first` on, its samples from block `from` on
 pub record Ready (bytes : List ℕ) (first n from m : ℕ) : Type 0 where

@@ -3,9 +3,9 @@ ghost use mathlib.Core.Path.{_≡_};
 ghost use Prim.Native.Nat.{_+_, _≤_};
 ghost use Rattle.theory.specs.Rank.{onesLeft, position};
 ghost use Rattle.theory.specs.Stages.{readR1, readR0};
-ghost use Rattle.image.specs.declared.Checked.the-variants.{Sound};
-ghost use Rattle.image.specs.Checked.{checked};
-use image::Image;
+ghost use Rattle.checked.specs.declared.Checked.the-variants.{Sound};
+ghost use Rattle.checked.specs.Checked.{checked};
+use checked::Image;
 use rank::rank;
 use select::select;
 

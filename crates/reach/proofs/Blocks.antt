@@ -13,10 +13,10 @@ use Rattle.theory.specs.Layout.{bitPlace}
 use Rattle.theory.proofs.Packing.{bits-length, bits-at, bits-cut}
 use Rattle.theory.proofs.TreeImages.{length-stringIn, stringIn-at}
 use Rattle.theory.proofs.InBlocks.{stringIn-cut}
-use Rattle.bits.specs.Appended.{byteBits}
-use Rattle.bits.proofs.Runs.{byte-run}
-use Rattle.counts.specs.Parts.{onesTo}
-use Rattle.counts.proofs.Ones.{onesTo-cut}
+use Rattle.byte.specs.Byte.{byteBits}
+use Rattle.tally.proofs.Runs.{byte-run}
+use Rattle.parts.specs.Parts.{onesTo}
+use Rattle.parts.proofs.Ones.{onesTo-cut}
 use Rattle.places.proofs.Reaching.{ones-mono, same-place, past-place}
 
 -- bits of a string that stand in one block

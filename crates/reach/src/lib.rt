@@ -4,9 +4,9 @@ ghost use Prim.Native.Nat.{_+_, _*_, _/_, _≤_, _<_};
 ghost use Rattle.meaning.specs.Image.{stringBlocks, stringIn};
 ghost use Rattle.theory.specs.Rank.{position};
 ghost use Rattle.theory.specs.Stages.{Kept};
-ghost use Rattle.counts.specs.Parts.{onesTo};
-use bits::ones_in_front;
-use blocks::word;
+ghost use Rattle.parts.specs.Parts.{onesTo};
+use byte::ones_in_front;
+use image_words::word;
 use places::place_from;
 
 // Of the ones after the first i bits of a string, the position of the one that `more` others come before. It stands in the block of bit i.

@@ -9,7 +9,7 @@ use lib.ListN.{getD}
 use Rattle.meaning.specs.Strings.{ones}
 use Rattle.meaning.specs.Bytes.{bitsFrom, bytesFor, leftover}
 use Rattle.theory.proofs.Packing.{bits-of-byte}
-use Rattle.bits.proofs.Table.{all, at}
+use Rattle.byte.proofs.Table.{all, at}
 
 abbrev alike : Bool → Bool → Bool
 alike true b = b

@@ -7,7 +7,7 @@ ghost use Rattle.meaning.specs.Answers.{written};
 ghost use Rattle.meaning.specs.Bytes.{bitsFrom, leftover};
 ghost use Rattle.meaning.specs.Strings.{ones, parentsOf};
 ghost use Rattle.reading.specs.Entered.{entered};
-use bits::bit_of;
+use bit::bit_of;
 
 // Is a leftover bit set, after the first `n` bits of `b`?
 pub fn leftover_set(b: &[u8], n: usize) -> bool
@@ -64,7 +64,7 @@ pub fn write_parents(b: &[u8], n: usize, nodes: usize, out: &mut [u32])
     let mut p = 8 * i;
     while k < nodes {
         out[k] = (p - k) as u32;
-        k = k + count(bits::bit_at(b, p));
+        k = k + count(bit::bit_at(b, p));
         p += 1;
     }
 }

@@ -11,9 +11,9 @@ use Rattle.theory.specs.Rank.{onesLeft, position}
 use Rattle.theory.specs.Layout.{bitPlace}
 use Rattle.theory.specs.ByStrings.{bitOf}
 use Rattle.theory.specs.Stages.{readR1}
-use Rattle.image.specs.declared.Image.{Image}
-use Rattle.image.specs.declared.Checked.the-variants.{Sound}
-use Rattle.image.specs.Checked.{checked}
+use Rattle.checked.specs.declared.Image.{Image}
+use Rattle.checked.specs.declared.Checked.the-variants.{Sound}
+use Rattle.checked.specs.Checked.{checked}
 use Rattle.seek.specs.Found.{LastOne, FirstOne}
 use Rattle.runs.proofs.Counting.{left-next, position-of-one, zero-not-last}
 use Rattle.runs.proofs.Own.{strings, bit1}

@@ -20,10 +20,10 @@ use Rattle.theory.proofs.InBlocks.{stringIn-cut}
 use Rattle.theory.proofs.Forms.{length-parents, string-parents}
 use Rattle.theory.proofs.Stages.{image-stages, parts-read}
 use Rattle.theory.proofs.ByStrings.{answers-by-strings}
-use Rattle.image.specs.declared.Image.{Image}
-use Rattle.image.specs.declared.Checked.the-variants.{Sound}
-use Rattle.image.specs.Checked.{checked}
-use Rattle.image.proofs.Finding.{sound-known}
+use Rattle.checked.specs.declared.Image.{Image}
+use Rattle.checked.specs.declared.Checked.the-variants.{Sound}
+use Rattle.checked.specs.Checked.{checked}
+use Rattle.checked.proofs.Finding.{sound-known}
 use Rattle.places.proofs.Reaching.{place-le}
 use Rattle.ranks.proofs.Strings.{in-r1, in-r0}
 use Rattle.runs.proofs.Counting.{any-else, left-missing}

@@ -1,22 +1,15 @@
 -- A sample names a one by the ones before it.
 use mathlib.Core.Path.{_≡_, refl, sym, ap, _∙_}
-use mathlib.Core.List.{List, [], _∷_}
-use Prim.Native.Nat.{ℕ, zero, suc, _+_, _-_, _*_, _/_, _%_, _≤_, _<_}
+use mathlib.Core.List.{List}
+use Prim.Native.Nat.{ℕ, _+_, _-_, _*_, _/_, _%_, _≤_, _<_}
 use native.Mathlib.Decide.{decLt}
 use native.Mathlib.Omega.{arith}
-use lib.ListN.{length, getD, take}
 use Rattle.meaning.specs.Strings.{Bit, O, I, ones}
 use Rattle.meaning.specs.Bytes.{value, bitAt, bitsFrom}
+use Rattle.theory.proofs.Navigate.{one-there}
 use Rattle.theory.proofs.Packing.{bits-length, bits-at}
 use Rattle.sample_words.specs.Words.{NamesOne}
-use Rattle.bits.proofs.Runs.{bits-next, bits-mono, bits-take, ones-after}
-
--- each one that the string has
-pub one-there : (r : List Bit) (k : ℕ) → k < ones r → (p : ℕ) × (p < length r) × (getD r p O ≡ I) × (ones (take p r) ≡ k)
-one-there [] k h = absurd (omega arith)
-one-there (O ∷ r) k h = let o = one-there r k h in (suc (o .0), omega (arith, o .1), o .2, o .3)
-one-there (I ∷ r) zero h = (0, omega arith, refl, refl)
-one-there (I ∷ r) (suc k) h = let o = one-there r k (omega arith) in (suc (o .0), omega (arith, o .1), o .2, ap suc (o .3))
+use Rattle.tally.proofs.Runs.{bits-next, bits-mono, bits-take, ones-after}
 
 -- ---- a piece of a string
 

@@ -4,12 +4,8 @@ use mathlib.Core.List.{List}
 use Prim.Native.Nat.{ℕ, _+_, _*_, _/_, _≤_, _<_}
 use Rattle.meaning.specs.Strings.{I, ones}
 use Rattle.meaning.specs.Bytes.{bitAt, bitsFrom}
-use Rattle.theory.specs.Layout.{wordAt, samplePlace}
+use Rattle.theory.specs.Layout.{sampleIn}
 use Rattle.theory.specs.Stages.{blocksOfSamples}
-
--- the word of sample number q, from 0, where the samples' blocks begin at block `from`
-abbrev pub sampleIn : List ℕ → ℕ → ℕ → ℕ
-sampleIn bytes from q = wordAt bytes (samplePlace from q)
 
 -- of n bits from byte `at` on, which i bits of their string come before: the position of one number `nth` of them, from 1
 abbrev pub NamesOne : List ℕ → ℕ → ℕ → ℕ → ℕ → ℕ → Type 0

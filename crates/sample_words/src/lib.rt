@@ -4,11 +4,11 @@ ghost use Rattle.meaning.specs.Strings.{ones};
 ghost use Rattle.meaning.specs.Bytes.{bitsFrom};
 ghost use Rattle.theory.specs.Layout.{wordAt};
 ghost use Rattle.theory.specs.Stages.{blocksOfSamples};
-ghost use Rattle.counts.specs.Says.{Says};
+ghost use Rattle.parts.specs.Says.{Says};
 ghost use Rattle.word_table.specs.Table.{CountsBefore};
 ghost use Rattle.sample_words.specs.Words.{NamesOne, RestZero};
-use bits::ones_ending;
-use blocks::word;
+use image_words::word;
+use tally::ones_ending;
 
 // Of the first n bits from byte `at` on, which i bits of their string come before: does the sample at byte p name one number `nth` of them, from 1?
 pub fn sample_right(

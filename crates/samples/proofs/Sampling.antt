@@ -1,7 +1,7 @@
 -- The samples of a string: each is the position of one number 64 s + 1, block by block, and zeros after the last.
 use mathlib.Core.Path.{_≡_, sym, ap, ap₂, _∙_}
-use mathlib.Core.List.{List, [], _∷_}
-use Prim.Native.Nat.{ℕ, zero, suc, _+_, _-_, _*_, _/_, _%_, _≤_, _<_}
+use mathlib.Core.List.{List}
+use Prim.Native.Nat.{ℕ, suc, _+_, _-_, _*_, _/_, _%_, _≤_, _<_}
 use native.Mathlib.Decide.{decLt}
 use native.Mathlib.Numerals.{add-one}
 use native.Mathlib.Omega.{arith}
@@ -10,28 +10,19 @@ use Rattle.meaning.specs.Strings.{Bit, O, I, ones}
 use Rattle.meaning.specs.Bytes.{value, bitAt, bitsFrom}
 use Rattle.meaning.specs.Image.{samples, stringIn}
 use Rattle.theory.specs.Rank.{position}
-use Rattle.theory.specs.Layout.{bitPlace, wordAt, sampleWord}
-use Rattle.theory.specs.Stages.{blocksOfSamples, Sampled}
-use Rattle.theory.proofs.Bits.{I≢O}
-use Rattle.theory.proofs.Navigate.{position-zero}
+use Rattle.theory.specs.Layout.{bitPlace, wordAt, sampleIn, sampleWord}
+use Rattle.theory.specs.Stages.{Sampled}
+use Rattle.theory.proofs.Navigate.{one-there, place-of-one}
 use Rattle.theory.proofs.Payloads.{length-samples, sample-at}
 use Rattle.theory.proofs.TreeImages.{length-stringIn}
-use Rattle.counts.specs.Parts.{onesTo}
-use Rattle.counts.proofs.Ones.{onesTo-take, onesTo-next, onesTo-mono, onesTo-block, string-at}
-use Rattle.sample_words.specs.Words.{sampleIn, RestZero}
+use Rattle.theory.proofs.Stages.{sampled-word}
+use Rattle.parts.specs.Parts.{onesTo}
+use Rattle.parts.proofs.Ones.{onesTo-take, onesTo-next, onesTo-mono, onesTo-block, string-at}
+use Rattle.sample_words.specs.Words.{RestZero}
 use Rattle.piece_samples.specs.Pieces.{SampledHere, PieceSampled}
 use Rattle.samples.specs.Samples.{SampledWithin}
-pub use Rattle.sample_words.proofs.Naming.{one-there}
 
 -- ---- one sample
-
--- a one that k ones come before is one number k + 1
-pub place-of-one : (r : List Bit) (i : ℕ) → i < length r → getD r i O ≡ I → position r (suc (ones (take i r))) ≡ suc i
-place-of-one [] i h e = absurd (omega arith)
-place-of-one (O ∷ r) zero h e = I≢O (sym e)
-place-of-one (I ∷ r) zero h e = ap suc (position-zero r)
-place-of-one (O ∷ r) (suc i) h e = ap suc (place-of-one r i (omega arith) e)
-place-of-one (I ∷ r) (suc i) h e = ap suc (place-of-one r i (omega arith) e)
 
 -- sample number q is the position of a one that 64 q others come before
 sample-of-one : (r : List Bit) (i q : ℕ) → i < length r → getD r i O ≡ I → ones (take i r) ≡ 64 * q → 64 * q < ones r → getD (samples r) q 0 ≡ i + 1
@@ -103,18 +94,12 @@ module _ (bytes : List ℕ) (from first n m : ℕ) (count : m ≡ onesTo bytes f
       place = ap₂ (λ u v. wordAt bytes (512 * (from + u) + 4 * v))
           (let e : j ≡ (126 * j + w) / 126 = omega arith in e) (let e : w ≡ (126 * j + w) % 126 = omega arith in e)
 
-  -- word q of the blocks
-  pub word-at : Sampled bytes from m r → (q : ℕ) → q < 126 * blocksOfSamples m → sampleIn bytes from q ≡ getD (samples r) q 0
-  unfolding sampleWord
-  word-at s q h =
-      s (q / 126) (q % 126) (omega arith) (omega arith) ∙ ap (λ j. getD (samples r) j 0) (let e : 126 * (q / 126) + q % 126 ≡ q = omega arith in e)
-
   pub sampled-within : Sampled bytes from m r → SampledWithin bytes from first 0 n
   unfolding value
   sampled-within s p l h e d =
       let more = onesTo-next bytes first p 1 (ap value (sym e)) in
       let most = onesTo-mono bytes first (p + 1) n (omega arith) in
-      word-at s (onesTo bytes first p / 64) (omega arith) ∙ sample-here p (onesTo bytes first p / 64) h e (omega arith)
+      sampled-word bytes from m r s (onesTo bytes first p / 64) (omega arith) ∙ sample-here p (onesTo bytes first p / 64) h e (omega arith)
 
   pub sampled-rest : Sampled bytes from m r → RestZero bytes from m
-  sampled-rest s q h g = word-at s q g ∙ List·getD-eq-default (samples r) 0 (let l : length (samples r) ≤ q = omega (arith, length-samples r) in l)
+  sampled-rest s q h g = sampled-word bytes from m r s q g ∙ List·getD-eq-default (samples r) 0 (let l : length (samples r) ≤ q = omega (arith, length-samples r) in l)

@@ -5,9 +5,8 @@ use Prim.Native.Nat.{ℕ, _+_, _≤_, _<_}
 use Rattle.meaning.specs.Strings.{I}
 use Rattle.meaning.specs.Bytes.{bitAt}
 use Rattle.theory.specs.Layout.{bitPlace}
-use Rattle.counts.specs.Parts.{onesTo}
+use Rattle.parts.specs.Parts.{onesTo}
 use Rattle.piece_samples.specs.Pieces.{SampledHere}
-pub use Rattle.sample_words.specs.Words.{sampleIn}
 
 -- bit p, if it is one, of the string whose blocks begin at block `first`
 abbrev pub SampledAt : List ℕ → ℕ → ℕ → ℕ → Type 0

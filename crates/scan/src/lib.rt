@@ -5,8 +5,8 @@ ghost use Rattle.meaning.specs.Bytes.{bitsFrom};
 ghost use Rattle.closing.specs.Ends.{treeEnd};
 ghost use Rattle.falls.specs.Falls.{Falls};
 ghost use Rattle.inside.specs.Ends.{endOf};
-use bits::bit_at;
-pub use inside::TreeEnd;
+use bit::bit_at;
+use inside::TreeEnd;
 use inside::inside_end;
 
 // A table of sixteen rows of sixteen: how far the pending nodes fall at most, on the way through a byte; its row is that of its first four bits, its place there that of its last four.

@@ -14,7 +14,7 @@ use Rattle.theory.proofs.Settled.{below, beyond, between, settle-here, settle-o
 use Rattle.theory.proofs.Images.{parts-size}
 use Rattle.ends.specs.Listed.{marksIn}
 use Rattle.marks.specs.Passes.{blocksFor}
-use Rattle.payloads.proofs.Preparing.{blocks-total}
+use Rattle.filling.proofs.Preparing.{blocks-total}
 
 module _ (ps out : List ℕ) where
   pub image-none : length ps < 1 → cameTo (refusedWith 2 0) out ≡ imageOfParents ps out

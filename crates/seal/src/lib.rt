@@ -1,13 +1,10 @@
 // Images: a parent list's, sealed.
 ghost use mathlib.Core.Path.{_≡_};
-ghost use Prim.Native.Nat.{_*_, _≤_};
-ghost use Rattle.meaning.specs.Answers.{cameTo, written};
+ghost use Prim.Native.Nat.{_*_};
+ghost use Rattle.meaning.specs.Answers.{cameTo};
 ghost use Rattle.meaning.specs.Calls.{imageOfParents};
-ghost use Rattle.meaning.specs.Image.{imageOfString};
-ghost use Rattle.meaning.specs.Parents.{badEntry};
-ghost use Rattle.meaning.specs.Strings.{stringOf};
-ghost use Rattle.ends.specs.Listed.{marksIn};
-ghost use Rattle.marks.specs.Passes.{blocksFor};
+use entries::bad_entry;
+use filling::write_image;
 use meaning::Answer;
 use meaning::MOST_NODES;
 use meaning::NO_ROOM;
@@ -15,21 +12,6 @@ use meaning::NOT_PARENTS;
 use meaning::WRONG_SIZE;
 use meaning::done;
 use meaning::refuse;
-use strings::bad_entry;
-
-// The image of a parent list with m runs of ones, which takes so many blocks.
-fn write_image(image: &mut [u8], ps: &[u32], m: usize, blocks: usize)
-    requires { do ⌜ 1 ≤ (← ⟦ps.len()⟧) ⌝ }
-    requires { do ⌜ (← ⟦ps.len()⟧) ≤ 65535 ⌝ }
-    requires { ⌜ badEntry (now ps) ≡ 0 ⌝ }
-    requires { ⌜ m ≡ marksIn (now ps) ⌝ }
-    requires { ⌜ blocks ≡ blocksFor (now ps) ⌝ }
-    requires { do ⌜ 512 * blocks ≤ (← ⟦image.len()⟧) ⌝ }
-    ensures { λ _. ⌜ now (image .exit) ≡ written (imageOfString (stringOf (now (ps .entry)))) (now (image .entry)) ⌝ }
-{
-    payloads::fill(image, ps, m, blocks);
-    blocks::seal_blocks(image, blocks);
-}
 
 // The image of a parent list.
 pub fn image_of_parents(parents: &[u32], image: &mut [u8]) -> Answer

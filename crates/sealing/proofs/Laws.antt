@@ -9,7 +9,7 @@ use lib.ListN.{length, getD, take, drop, replicate, length-append, length-drop, 
 use lib.Seq.{length-take-le, take-at, drop-at, take-add, drop-drop, take-append-add, drop-append-add, getD-at}
 use Rattle.meaning.specs.Blocks.{le32, wordBytes, words, sums, padded, block, sealed}
 use Rattle.theory.proofs.Sealing.{length-sealed}
-use Rattle.sums.specs.Words.{withWord}
+use Rattle.image_words.specs.Words.{withWord}
 use Rattle.sealing.specs.Sealed.{payload, payloadsIn, withSums}
 
 -- ---- two words

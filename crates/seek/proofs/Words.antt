@@ -10,7 +10,7 @@ use lib.Count.{leadingZeros, trailingZeros, under, leading-top}
 use lib.Pow.{pow-pos, pow-mono, shr-shr, shr-le, high, field, mod-mod-pow, ones-split, ones-lt}
 use Rattle.meaning.specs.Bytes.{bitAt, bitsFrom, number, value}
 use Rattle.theory.proofs.Digits.{number-lt}
-use Rattle.bits.proofs.Words.{ending-ones}
+use Rattle.tally.proofs.Words.{ending-ones}
 
 -- ---- digits of numbers
 

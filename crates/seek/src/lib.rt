@@ -1,7 +1,7 @@
 // The one next to a bit, on either side, in the 4000 bits of a block: found by words of eight bytes.
 ghost use Prim.Native.Nat.{_+_, _*_, _≤_, _<_};
 ghost use Rattle.seek.specs.Found.{LastOne, FirstOne};
-use bits::whole_word;
+use words::whole_word;
 
 // A word that has bit k among its own and, where it can, most of the bits before it: its first byte.
 fn word_to(k: usize) -> usize

@@ -7,14 +7,15 @@ use lib.ListN.{take}
 use Rattle.meaning.specs.Strings.{ones}
 use Rattle.meaning.specs.Image.{stringIn}
 use Rattle.theory.specs.Rank.{position}
+use Rattle.theory.specs.Layout.{sampleIn}
 use Rattle.theory.specs.Stages.{Sampled}
+use Rattle.theory.proofs.Navigate.{one-there, place-of-one}
 use Rattle.theory.proofs.Payloads.{length-samples, sample-at}
 use Rattle.theory.proofs.TreeImages.{length-stringIn}
 use Rattle.theory.proofs.InBlocks.{stringIn-cut}
-use Rattle.counts.specs.Parts.{onesTo}
-use Rattle.counts.proofs.Ones.{onesTo-take}
-use Rattle.samples.specs.Samples.{sampleIn}
-use Rattle.samples.proofs.Sampling.{place-of-one, one-there, word-at}
+use Rattle.theory.proofs.Stages.{sampled-word}
+use Rattle.parts.specs.Parts.{onesTo}
+use Rattle.parts.proofs.Ones.{onesTo-take}
 use Rattle.places.proofs.Reaching.{same-place}
 
 -- one number k, which stands in block j, by bit i of that block
@@ -38,7 +39,7 @@ sample-start bytes from first n m q x e s h w =
     let i = o .0 in
     let l : i < n = omega (arith, o .1, length-stringIn bytes first 0 n) in
     let f : x ≡ suc i =
-    w ∙ word-at bytes from first n m e s q (omega arith)
+    w ∙ sampled-word bytes from m r s q (omega arith)
     ∙ sample-at r q (omega (arith, length-samples r))
     ∙ ap (position r) (let g : 64 * q + 1 ≡ suc (ones (take i r)) = omega (arith, o .3) in g)
     ∙ place-of-one r i (o .1) (o .2) in

@@ -5,7 +5,7 @@ ghost use Rattle.meaning.specs.Strings.{ones};
 ghost use Rattle.meaning.specs.Image.{stringBlocks, stringIn};
 ghost use Rattle.theory.specs.Rank.{position};
 ghost use Rattle.theory.specs.Stages.{Kept, Sampled, blocksOfSamples};
-use blocks::word;
+use image_words::word;
 use reach::block_of;
 use reach::place_after;
 

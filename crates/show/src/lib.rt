@@ -1,8 +1,15 @@
-// What a call came to, as text for the programs that run document 01's cases.
+// What a call came to, as text for the program that runs the cases: a lent list entry by entry, or, where it is long, how many 9s it has and two sums.
 use meaning::Answer;
+use std::num::wrapping_add_u32;
 
-fn wide(x: u32) -> u64 {
-    x as u64
+// The longest list that is shown entry by entry.
+const MOST_SHOWN: usize = 300;
+
+// How many of some numbers are 9, and two sums, made as those of a block are made of its words: they stand for a long list.
+pub struct Digest {
+    pub nines: u32,
+    pub s: u32,
+    pub t: u32,
 }
 
 fn byte(x: u8) -> u32 {
@@ -11,20 +18,11 @@ fn byte(x: u8) -> u32 {
 
 fn number(x: u32) {
     io::write_all(1, b" ");
-    io::print_decimal(1, wide(x));
+    io::print_decimal(1, x as u64);
 }
 
-// A line of its own: what was asked.
-pub fn asked(text: &[u8]) {
-    io::write_all(1, text);
+fn end() {
     io::write_all(1, b"\n");
-}
-
-// The beginning of a line: the case, and what of it.
-pub fn about(name: &[u8], what: &[u8]) {
-    io::write_all(1, name);
-    io::write_all(1, b" ");
-    io::write_all(1, what);
 }
 
 // Code, place and the two counts.
@@ -34,23 +32,99 @@ pub fn answered(a: Answer) {
     number(a.place);
     number(a.first);
     number(a.second);
-    io::write_all(1, b"\n");
+    end();
+}
+
+pub fn summed(d: Digest) {
+    io::write_all(1, b"  nines and sums");
+    number(d.nines);
+    number(d.s);
+    number(d.t);
+    end();
+}
+
+fn after(d: Digest, x: u32) -> Digest {
+    let s = wrapping_add_u32(d.s, x);
+    let t = wrapping_add_u32(d.t, s);
+    let more = if x == 9 { 1 } else { 0 };
+    Digest {
+        nines: wrapping_add_u32(d.nines, more),
+        s,
+        t,
+    }
+}
+
+// The numbers so far, and those of a list behind them.
+pub fn after_words(before: Digest, list: &[u32]) -> Digest {
+    let mut d = before;
+    for i in 0..list.len() {
+        d = after(d, list[i]);
+    }
+    d
+}
+
+fn after_bytes(before: Digest, list: &[u8]) -> Digest {
+    let mut d = before;
+    for i in 0..list.len() {
+        d = after(d, byte(list[i]));
+    }
+    d
 }
 
 // A lent list of numbers, as it is now.
 pub fn words(list: &[u32]) {
+    if MOST_SHOWN < list.len() {
+        summed(after_words(
+            Digest {
+                nines: 0,
+                s: 0,
+                t: 0,
+            },
+            list,
+        ));
+        return;
+    }
     io::write_all(1, b"  list");
     for i in 0..list.len() {
         number(list[i]);
     }
-    io::write_all(1, b"\n");
+    end();
 }
 
 // A lent buffer, as it is now.
 pub fn bytes(list: &[u8]) {
+    if MOST_SHOWN < list.len() {
+        summed(after_bytes(
+            Digest {
+                nines: 0,
+                s: 0,
+                t: 0,
+            },
+            list,
+        ));
+        return;
+    }
     io::write_all(1, b"  bytes");
     for i in 0..list.len() {
         number(byte(list[i]));
     }
-    io::write_all(1, b"\n");
+    end();
+}
+
+// How many entries of a list stand at the same places of another.
+pub fn equal(a: &[u32], b: &[u32]) {
+    let mut k: u32 = 0;
+    let mut i: usize = 0;
+    while i < a.len() {
+        if b.len() <= i {
+            break;
+        }
+        if a[i] == b[i] {
+            k = wrapping_add_u32(k, 1);
+        }
+        i += 1;
+    }
+    io::write_all(1, b"  equal");
+    number(k);
+    end();
 }

@@ -12,9 +12,9 @@ use Rattle.theory.specs.ByStrings.{within, before, parentOf, siblingBy, byStrin
 use Rattle.theory.specs.Stages.{readR1, readR0}
 use Rattle.theory.proofs.Navigate.{position-zero}
 use Rattle.theory.proofs.ByStrings.{within-there, within-low, within-high}
-use Rattle.image.specs.declared.Image.{Image}
-use Rattle.image.specs.declared.Checked.the-variants.{Sound}
-use Rattle.image.specs.Checked.{checked}
+use Rattle.checked.specs.declared.Image.{Image}
+use Rattle.checked.specs.declared.Checked.the-variants.{Sound}
+use Rattle.checked.specs.Checked.{checked}
 use Rattle.signs.specs.Values.{moved}
 use Rattle.runs.proofs.Counting.{left-of-one, left-after-one, left-before, right-from, position-less}
 use Rattle.runs.proofs.Own.{strings, more1}

@@ -12,7 +12,7 @@ use Rattle.meaning.specs.Packs.{sizes, starts}
 use Rattle.meaning.specs.declared.Answer.{Answer}
 use Rattle.meaning.specs.Answers.{Row, _at_when_, Outcome, refusedWith, counts, cameTo, settle, written, tooShort}
 use Rattle.meaning.specs.Calls.{splitPack}
-use Rattle.theory.specs.Promises.{NoneHolds}
+use Rattle.theory.specs.Rows.{NoneHolds}
 use Rattle.theory.proofs.Settled.{or-first, or-second, or-neither, settle-here, settle-on, settle-none}
 use Rattle.pack_scan.proofs.Parts.{starts-length}
 use Rattle.holding.specs.declared.Held.the-variants.{Trees, Refused}

@@ -9,8 +9,8 @@ ghost use Rattle.meaning.specs.Image.{stringIn};
 ghost use Rattle.meaning.specs.Strings.{ones, parentsOf, woven};
 ghost use Rattle.theory.specs.Stages.{samplesFrom, zerosFrom};
 ghost use Rattle.spread.specs.Spread.{InRuns, SpreadOut, spread};
-use bits::bit_of;
-use positions::place_string;
+use bit::bit_of;
+use string_positions::place_string;
 
 // For each of the first n bits of a byte, from entry i on, writes the number at entry p; a one moves p on. Answers where p comes to. It never falls behind what is written.
 fn spread_byte(x: u8, n: usize, i: usize, p: usize, out: &mut [u32]) -> usize

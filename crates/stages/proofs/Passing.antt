@@ -4,9 +4,9 @@ use mathlib.Core.Bool.{Bool}
 use mathlib.Core.List.{List}
 use Prim.Native.Nat.{ℕ, _+_}
 use Rattle.theory.specs.Stages.{Header, Stages, nodesOf, marksOf, zerosFrom, samplesFrom, blocksOfSamples}
-use Rattle.counts.specs.Says.{Says}
+use Rattle.parts.specs.Says.{Says}
 use Rattle.stages.specs.Passes.{StringsPass}
-use Rattle.counts.proofs.Saying.{says-same}
+use Rattle.parts.proofs.Saying.{says-same}
 
 module _ (bytes : List ℕ) where
   -- with the numbers that the header gives

@@ -2,14 +2,14 @@
 ghost use mathlib.Core.Path.{_≡_};
 ghost use Prim.Native.Nat.{_+_, _*_, _≤_};
 ghost use Rattle.theory.specs.Stages.{Stages, zerosFrom, samplesFrom, blocksOfSamples};
-ghost use Rattle.counts.specs.Says.{Says};
+ghost use Rattle.parts.specs.Says.{Says};
 ghost use Rattle.stages.specs.Passes.{StringsPass};
 use blocks::sample_blocks;
 use blocks::samples_from;
-use blocks::word;
 use blocks::zeros_from;
 use counts::string_right;
 use header::header_right;
+use image_words::word;
 use samples::samples_right;
 use steps::in_step;
 

@@ -10,9 +10,9 @@ use Rattle.theory.specs.Layout.{bitPlace}
 use Rattle.theory.specs.Stages.{InStep}
 use Rattle.theory.proofs.Bits.{I≢O}
 use Rattle.theory.proofs.TreeImages.{length-stringIn}
-use Rattle.bits.proofs.Values.{is-O, is-I}
-use Rattle.counts.specs.Parts.{onesTo}
-use Rattle.counts.proofs.Ones.{onesTo-take, onesTo-mono, onesTo-block, string-at}
+use Rattle.bit.proofs.Values.{is-O, is-I}
+use Rattle.parts.specs.Parts.{onesTo}
+use Rattle.parts.proofs.Ones.{onesTo-take, onesTo-mono, onesTo-block, string-at}
 use Rattle.byte_steps.specs.Steps.{StepAt}
 use Rattle.steps.specs.Steps.{StepWithin}
 

@@ -4,11 +4,11 @@ ghost use Prim.Native.Nat.{_+_, _*_, _≤_};
 ghost use Rattle.meaning.specs.Image.{stringIn};
 ghost use Rattle.theory.specs.Layout.{wordAt};
 ghost use Rattle.theory.specs.Stages.{InStep, zerosFrom, samplesFrom};
-ghost use Rattle.counts.specs.Says.{Says};
-ghost use Rattle.counts.specs.Parts.{Counted, onesTo};
+ghost use Rattle.parts.specs.Says.{Says};
+ghost use Rattle.parts.specs.Parts.{Counted, onesTo};
 ghost use Rattle.steps.specs.Steps.{StepWithin};
-use blocks::word;
-use counts::string_bit;
+use image_words::word;
+use parts::string_bit;
 use strides::pairs_in_step;
 
 // Is R1 in step with R0 in the first n bits of their blocks number j?

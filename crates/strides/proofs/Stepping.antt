@@ -5,7 +5,7 @@ use Prim.Native.Nat.{ℕ, _+_, _*_, _≤_}
 use native.Mathlib.Omega.{arith}
 use Rattle.meaning.specs.Strings.{ones}
 use Rattle.meaning.specs.Bytes.{bitsFrom}
-use Rattle.bits.proofs.Runs.{bits-ones-le, eight-more}
+use Rattle.tally.proofs.Runs.{bits-ones-le, eight-more}
 
 module _ (bytes : List ℕ) (at i front back : ℕ) (f : front ≡ ones (bitsFrom bytes (8 * (at + i)) 64)) (b : back ≡ ones (bitsFrom bytes (8 * (at + i + 8)) 64)) where
   pub sixteen-more : ones (bitsFrom bytes (8 * at) (8 * i)) + (front + back) ≡ ones (bitsFrom bytes (8 * at) (8 * (i + 16)))

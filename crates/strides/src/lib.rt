@@ -1,11 +1,11 @@
 // Two strings in step, of many bytes: eight and sixteen at a time.
 ghost use Prim.Native.Nat.{_+_, _/_, _≤_};
-ghost use Rattle.counts.specs.Says.{Says};
+ghost use Rattle.parts.specs.Says.{Says};
 ghost use Rattle.byte_steps.specs.Steps.{StepAt};
-use bits::ones_in_word;
 use byte_steps::bytes_in_step;
 use word_steps::pair_in_step;
 use word_steps::word_in_step;
+use words::ones_in_word;
 
 // Of n bits of R1 from byte `at1` on, which `ones1` ones come before, and n of R0 from `at0` on, which `ones0` come before: is R1 in step with R0 at each of them? Eight bytes at a time.
 fn words_in_step(b: &[u8], at1: usize, at0: usize, n: usize, ones1: usize, ones0: usize) -> bool

@@ -22,10 +22,11 @@ use Rattle.theory.proofs.Lowest.{parents-badEntry}
 use Rattle.theory.proofs.Forms.{length-parents, string-parents}
 use Rattle.theory.proofs.Packing.{bits-length, packed-length, packed-leftover, packed-read, read-packed}
 use Rattle.theory.proofs.Packs.{string-length}
-use Rattle.theory.proofs.Promises.{string-back, string-accepted, never-before}
+use Rattle.theorems.proofs.Promises.{string-back, string-accepted, never-before}
 use Rattle.strings.specs.Promises as P
-use Rattle.codec.proofs.Answers.{string-made, parents-made}
-use Rattle.strings.proofs.Codes.{neither-second, not-unequal, none-held, row-held}
+use Rattle.encoding.proofs.Answers.{string-made}
+use Rattle.decoding.proofs.Answers.{parents-made}
+use Rattle.theory.proofs.Codes.{neither-second, not-unequal, none-held, row-held}
 
 -- ---- of a tree
 

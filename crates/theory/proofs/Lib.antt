@@ -1,4 +1,5 @@
 pub mod Settled
+pub mod Codes
 pub mod Order
 pub mod Levels
 pub mod Build
@@ -25,4 +26,3 @@ pub mod Addresses
 pub mod OwnAnswers
 pub mod Depths
 pub mod ByStrings
-pub mod Promises

@@ -47,6 +47,21 @@ pub position-zero : (bs : List Bit) → position bs 0 ≡ 0
 position-zero [] = refl
 position-zero (b ∷ bs) = refl
 
+-- each one that the bits have, by how many come before it
+pub one-there : (r : List Bit) (k : ℕ) → k < ones r → (p : ℕ) × (p < length r) × (getD r p O ≡ I) × (ones (take p r) ≡ k)
+one-there [] k h = absurd (omega arith)
+one-there (O ∷ r) k h = let o = one-there r k h in (suc (o .0), omega (arith, o .1), o .2, o .3)
+one-there (I ∷ r) zero h = (0, omega arith, refl, refl)
+one-there (I ∷ r) (suc k) h = let o = one-there r k (omega arith) in (suc (o .0), omega (arith, o .1), o .2, ap suc (o .3))
+
+-- a one that k ones come before is one number k + 1
+pub place-of-one : (r : List Bit) (i : ℕ) → i < length r → getD r i O ≡ I → position r (suc (ones (take i r))) ≡ suc i
+place-of-one [] i h e = absurd (omega arith)
+place-of-one (O ∷ r) zero h e = I≢O (sym e)
+place-of-one (I ∷ r) zero h e = ap suc (position-zero r)
+place-of-one (O ∷ r) (suc i) h e = ap suc (place-of-one r i (omega arith) e)
+place-of-one (I ∷ r) (suc i) h e = ap suc (place-of-one r i (omega arith) e)
+
 pub zeros-before : (bs : List Bit) (i : ℕ) → i < ones bs → getD (zerosBefore bs 0) i 0 ≡ position (ends0 bs) (led bs (ones (take i (ends1 bs))))
 zeros-before [] i h = absurd (omega arith)
 zeros-before (I ∷ bs) zero h = sym (position-zero (ends0 bs))

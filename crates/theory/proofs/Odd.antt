@@ -6,7 +6,7 @@ use native.Mathlib.Omega.{arith}
 use lib.ListN.{length}
 use Rattle.meaning.specs.Trees.{Tree, degrees}
 use Rattle.meaning.specs.Strings.{Bit, O, I, unary, lbs, strings, ones, zeros}
-use Rattle.theory.specs.Promises.{changed}
+use Rattle.theory.specs.Changes.{changed}
 use Rattle.theory.proofs.Bits.{Over, string-of-tree}
 
 over-counts : (c : ℕ) (bs : List Bit) → Over c bs → zeros bs ≡ ones bs + c

@@ -125,11 +125,16 @@ bitWord-take m bs h = omega (arith, at 0 (omega arith), at 8 (omega arith), at 1
         ap (λ n. number 8 (drop i (take n bs))) (let e : m ≡ i + (m - i) = omega arith in e)
         ∙ ap (number 8) (drop-take i (m - i) bs) ∙ number-take 8 (m - i) (drop i bs) (omega arith)
 
+string-count : (r : List Bit) (j : ℕ) → ones (take (4000 * j) r) ≡ stringWord r j 0
+unfolding stringWord
+string-count r j = refl
+
 pub string-word : (r : List Bit) (j w : ℕ) → length r ≤ 65536 → w < 126
     → wordAt (le32 (ones (take (4000 * j) r)) ++ bytesOf 500 (take 4000 (drop (4000 * j) r))) (4 * w) ≡ stringWord r j w
 unfolding stringWord
 string-word r j zero l h =
     le32-first (ones (take (4000 * j) r)) (bytesOf 500 (take 4000 (drop (4000 * j) r))) (omega (arith, ones-le (take (4000 * j) r), length-take (4000 * j) r))
+    ∙ string-count r j
 string-word r j (suc w) l h =
     let c = le32 (ones (take (4000 * j) r)) in
     let d = drop (4000 * j) r in

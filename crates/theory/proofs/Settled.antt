@@ -9,7 +9,7 @@ use lib.Dec.{ltb, eqb}
 use Rattle.meaning.specs.declared.Answer.{Answer}
 use Rattle.meaning.specs.Answers.{Row, refusedWith, cameTo, settle}
 use Rattle.meaning.specs.Calls.{outside}
-use Rattle.theory.specs.Promises.{Wins}
+use Rattle.theory.specs.Rows.{Wins}
 
 -- ---- tests
 

@@ -11,8 +11,8 @@ use Rattle.meaning.specs.Trees.{Tree, nodes}
 use Rattle.meaning.specs.Strings.{Bit, O, ones, lbs, R1, R0, parentsOf, stringOf, woven}
 use Rattle.meaning.specs.Bytes.{bit, bitAt, bytesOf}
 use Rattle.meaning.specs.Blocks.{blocksIn, wrongBlock}
-use Rattle.meaning.specs.Image.{stringBlocks, imageOfParts, image, stringIn, parentsIn, isImage}
-use Rattle.theory.specs.Layout.{Runs, AreBytes, wordAt, bitPlace, bitWord, stringWord, startR0, startS1, startS0, total, Laid}
+use Rattle.meaning.specs.Image.{stringBlocks, samples, imageOfParts, image, stringIn, parentsIn, isImage}
+use Rattle.theory.specs.Layout.{Runs, AreBytes, wordAt, bitPlace, sampleIn, sampleWord, bitWord, stringWord, startR0, startS1, startS0, total, Laid}
 use Rattle.theory.specs.Stages.{nodesOf, marksOf, blocksOfSamples, zerosFrom, samplesFrom, blocksNeeded, readR1, readR0, Header, Ended, InStep, Kept, Sampled, Stages}
 use Rattle.theory.proofs.Digits.{same-bits, bytesOf-lt, bytesOf-bit, bytesOf-word, length-bytesOf, take-bytes, drop-bytes, wordAt-take, wordAt-drop}
 use Rattle.theory.proofs.Forms.{length-parents, length-R1, length-R0, string-parents, tree-runs, tree-rule, runs-ones, marks-count}
@@ -259,3 +259,11 @@ parts-read bytes e = let r = is-image bytes .0 e in subst PartsRead (r .2) (tree
           first = one;
           second = ap R0 string ∙ sym (tree-R0 t h);
         }
+
+-- ---- samples that are right, by their numbers
+
+pub sampled-word : (bytes : List ℕ) (from m : ℕ) (r : List Bit) → Sampled bytes from m r → (q : ℕ) → q < 126 * blocksOfSamples m
+    → sampleIn bytes from q ≡ getD (samples r) q 0
+unfolding sampleWord
+sampled-word bytes from m r s q h =
+    s (q / 126) (q % 126) (omega arith) (omega arith) ∙ ap (λ j. getD (samples r) j 0) (let e : 126 * (q / 126) + q % 126 ≡ q = omega arith in e)

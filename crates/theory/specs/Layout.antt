@@ -31,6 +31,10 @@ bitPlace from i = 8 * (512 * (from + i / 4000) + 4) + i % 4000
 abbrev pub samplePlace : ℕ → ℕ → ℕ
 samplePlace from w = 512 * (from + w / 126) + 4 * (w % 126)
 
+-- the word there
+abbrev pub sampleIn : List ℕ → ℕ → ℕ → ℕ
+sampleIn bytes from w = wordAt bytes (samplePlace from w)
+
 -- the word of the first 32 bits: four bytes, each most significant bit first
 unfoldable pub bitWord : List Bit → ℕ
 bitWord bs = number 8 bs + 256 * number 8 (drop 8 bs) + 65536 * number 8 (drop 16 bs) + 16777216 * number 8 (drop 24 bs)

@@ -1,6 +1,7 @@
+pub mod Rows
+pub mod Changes
 pub mod Rank
 pub mod ByStrings
 pub mod Walks
 pub mod Layout
 pub mod Stages
-pub mod Promises

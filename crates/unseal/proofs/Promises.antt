@@ -19,8 +19,8 @@ use Rattle.theory.proofs.Parents.{parents-are, parents-injective}
 use Rattle.theory.proofs.Lowest.{parents-badEntry}
 use Rattle.theory.proofs.Forms.{length-parents, string-parents}
 use Rattle.theory.proofs.TreeImages.{parents-in, is-image}
-use Rattle.theory.proofs.Promises.{image-back}
-use Rattle.image.proofs.Promises.{tree-passed, tree-checked, rows-passed}
+use Rattle.theorems.proofs.Promises.{image-back}
+use Rattle.checked.proofs.Promises.{tree-passed, tree-checked, rows-passed}
 use Rattle.unseal.specs.Promises as P
 
 -- ---- of a tree

@@ -15,11 +15,11 @@ use Rattle.theory.proofs.Settled.{settle-here, settle-on, settle-none}
 use Rattle.theory.proofs.InStep.{runs-ended}
 use Rattle.theory.proofs.TreeImages.{length-stringIn}
 use Rattle.theory.proofs.Stages.{image-stages, parts-read}
-use Rattle.image.specs.declared.Image.{Image}
-use Rattle.image.specs.declared.Checked.{Checked}
-use Rattle.image.specs.declared.Checked.the-variants.{Sound, Refused}
-use Rattle.image.specs.Checked.{checked}
-use Rattle.image.proofs.Finding.{IsSound, comesTo, rows-checked, sound-known}
+use Rattle.checked.specs.declared.Image.{Image}
+use Rattle.checked.specs.declared.Checked.{Checked}
+use Rattle.checked.specs.declared.Checked.the-variants.{Sound, Refused}
+use Rattle.checked.specs.Checked.{checked}
+use Rattle.checked.proofs.Finding.{IsSound, comesTo, rows-checked, sound-known}
 use Rattle.spread.specs.Spread.{InRuns}
 
 -- what the parents of a sound image are written by

@@ -2,9 +2,9 @@
 ghost use mathlib.Core.Path.{_≡_};
 ghost use Rattle.meaning.specs.Answers.{cameTo};
 ghost use Rattle.meaning.specs.Calls.{parentsOfImage};
-use image::Checked;
+use checked::Checked;
+use checked::refusal_of;
 use image::check;
-use image::refusal_of;
 use meaning::Answer;
 use meaning::NO_ROOM;
 use meaning::done;

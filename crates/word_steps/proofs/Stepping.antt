@@ -7,8 +7,8 @@ use lib.ListN.{length, take}
 use Rattle.meaning.specs.Strings.{Bit, O, I, ones}
 use Rattle.meaning.specs.Bytes.{bitsFrom}
 use Rattle.theory.proofs.Packing.{bits-length}
-use Rattle.bits.specs.Both.{both}
-use Rattle.bits.proofs.Runs.{bits-ones-le, bits-take}
+use Rattle.tally.specs.Both.{both}
+use Rattle.tally.proofs.Runs.{bits-ones-le, bits-take}
 use Rattle.byte_steps.specs.Steps.{StepAt}
 use Rattle.byte_steps.proofs.Stepping.{step-over}
 

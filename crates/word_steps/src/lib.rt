@@ -3,10 +3,10 @@ ghost use mathlib.Core.Path.{_≡_};
 ghost use Prim.Native.Nat.{_+_, _*_, _≤_};
 ghost use Rattle.meaning.specs.Strings.{ones};
 ghost use Rattle.meaning.specs.Bytes.{bitsFrom};
-ghost use Rattle.counts.specs.Says.{Says};
+ghost use Rattle.parts.specs.Says.{Says};
 ghost use Rattle.byte_steps.specs.Steps.{StepAt};
-use bits::ones_in_both;
 use byte_steps::bytes_in_step;
+use tally::ones_in_both;
 
 // Of eight bytes of R1 from `at1` on, which `ones1` ones come before, and eight of R0 from `at0` on, which `ones0` come before: is R1 in step with R0 at each bit? R1 has `more` ones in them.
 pub fn word_in_step(

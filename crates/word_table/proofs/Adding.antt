@@ -10,7 +10,7 @@ use lib.Seq.{getD-set-same, getD-set-other}
 use Rattle.meaning.specs.Strings.{ones}
 use Rattle.meaning.specs.Bytes.{bitsFrom}
 use Rattle.word_table.specs.Table.{WordCounts, CountsBefore, sumTo}
-use Rattle.bits.proofs.Runs.{bits-ones-le, no-bits, ones-after}
+use Rattle.tally.proofs.Runs.{bits-ones-le, no-bits, ones-after}
 
 -- a table filled from its front
 module _ (f : ℕ → ℕ) (table : List ℕ) (w v : ℕ) where

@@ -3,7 +3,7 @@ ghost use mathlib.Core.Path.{_≡_};
 ghost use Prim.Native.Nat.{ℕ, _+_, _≤_, _<_};
 ghost use lib.ListN.{getD, length};
 ghost use Rattle.word_table.specs.Table.{WordCounts, sumTo};
-use bits::ones_in_word;
+use words::ones_in_word;
 
 // How many bits of each of 63 words of eight bytes from byte `at` on are one. Each by itself, so that they become lanes.
 pub fn count_words(b: &[u8], at: usize, table: &mut [u32; 63])

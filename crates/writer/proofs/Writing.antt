@@ -10,9 +10,9 @@ use Rattle.meaning.specs.Answers.{written}
 use Rattle.meaning.specs.Image.{parentsIn}
 use Rattle.meaning.specs.Listing.{forEach, listing}
 use Rattle.theory.specs.Rank.{counting}
-use Rattle.image.specs.declared.Image.{Image}
-use Rattle.image.specs.declared.Checked.the-variants.{Sound}
-use Rattle.image.specs.Checked.{checked}
+use Rattle.checked.specs.declared.Image.{Image}
+use Rattle.checked.specs.declared.Checked.the-variants.{Sound}
+use Rattle.checked.specs.Checked.{checked}
 use Rattle.levels.specs.Levels.{low}
 use Rattle.writer.specs.Writing.{under}
 use Rattle.levels.proofs.Levels.{listing-node}

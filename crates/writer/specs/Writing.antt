@@ -7,8 +7,8 @@ use Rattle.meaning.specs.Answers.{written}
 use Rattle.meaning.specs.Image.{parentsIn}
 use Rattle.meaning.specs.Listing.{listing}
 use Rattle.theory.specs.Stages.{nodesOf, zerosFrom}
-use Rattle.image.specs.declared.Checked.the-variants.{Sound}
-use Rattle.image.specs.Checked.{checked, imageIn}
+use Rattle.checked.specs.declared.Checked.the-variants.{Sound}
+use Rattle.checked.specs.Checked.{checked, imageIn}
 use Rattle.levels.specs.Levels.{low, below}
 use Rattle.levels.specs.Cursors.{Ready}
 

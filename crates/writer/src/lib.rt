@@ -1,19 +1,11 @@
-// The pairs of a listing, written depth first.
+// The pairs of what stands below a node, written depth first.
 ghost use mathlib.Core.Path.{_≡_};
-ghost use Prim.Native.Nat.{_+_, _-_, _*_, _≤_, _<_};
+ghost use Prim.Native.Nat.{_+_, _-_, _*_, _<_};
 ghost use lib.ListN.{length, set};
-ghost use Rattle.meaning.specs.Answers.{written};
 ghost use Rattle.meaning.specs.Bytes.{bitAt, value};
-ghost use Rattle.meaning.specs.Image.{parentsIn};
-ghost use Rattle.meaning.specs.Listing.{listing};
 ghost use Rattle.theory.specs.ByStrings.{bitOf};
 ghost use Rattle.theory.specs.Stages.{nodesOf, readR1, readR0, zerosFrom};
-ghost use Rattle.image.specs.declared.Checked.the-variants.{Sound};
-ghost use Rattle.image.specs.Checked.{checked};
-ghost use Rattle.levels.specs.Levels.{below};
-ghost use Rattle.levels.specs.Cursors.{Ready};
 ghost use Rattle.writer.specs.Writing.{NodeIn, ToWrite, Wrote};
-use image::Image;
 
 // Bit j of byte `at`, most significant first.
 fn bit_in(b: &[u8], at: usize, j: usize) -> u32
@@ -26,7 +18,7 @@ fn bit_in(b: &[u8], at: usize, j: usize) -> u32
 
 // Is node x the last of its siblings, 2 or 0, and has it a child, 1 or 0? Exactly if R1, and if R0, has 1 at x.
 // Both strings have x at one place of a block, so that one division finds both bits.
-fn marks(b: &[u8], zeros: usize, x: usize) -> u32
+pub fn marks(b: &[u8], zeros: usize, x: usize) -> u32
     requires { ⌜ NodeIn (now b) x ⌝ }
     requires { ⌜ zeros ≡ zerosFrom (nodesOf (now b)) ⌝ }
     ensures { λ r. ⌜ r ≡ 2 * value (bitOf (readR1 (now (b .entry))) x) + value (bitOf (readR0 (now (b .entry))) x) ⌝ }
@@ -38,7 +30,7 @@ fn marks(b: &[u8], zeros: usize, x: usize) -> u32
 }
 
 // Writes a node and its depth behind the first `at` numbers.
-fn put_pair(out: &mut [u32], at: usize, node: u32, depth: u32)
+pub fn put_pair(out: &mut [u32], at: usize, node: u32, depth: u32)
     requires { ⌜ at + 1 < length (now out) ⌝ }
     ensures { λ _. ⌜ now (out .exit) ≡ set (set (now (out .entry)) at node) (at + 1) depth ⌝ }
 {
@@ -48,7 +40,7 @@ fn put_pair(out: &mut [u32], at: usize, node: u32, depth: u32)
 
 // Writes node and depth for everything below x, which has a child, where `left` of the 64 levels are left, x's own among them. Answers how many numbers it wrote.
 // The nodes of one depth are listed in the order of their numbers, so the cursor of a depth finds the next one there: no rank or select, and x serves the contract alone.
-fn write_below(
+pub fn write_below(
     b: &[u8],
     zeros: usize,
     x: usize,
@@ -77,22 +69,4 @@ fn write_below(
     }
     cursors[level] = child;
     filled
-}
-
-// Writes node and depth for x and for everything below it.
-pub fn write_listing(b: &[u8], image: Image, x: usize, cursors: &mut [u32; 64], out: &mut [u32])
-    requires { ⌜ checked (now b) ≡ Sound image ⌝ }
-    requires { ⌜ 1 ≤ x ⌝ }
-    requires { ⌜ x ≤ image .nodes ⌝ }
-    requires { ⌜ length (now cursors) ≡ 64 ⌝ }
-    requires { ⌜ Ready (below (now b)) (now cursors) (x - 1) x ⌝ }
-    requires { ⌜ length (listing 64 (parentsIn (now b)) x 0) ≤ length (now out) ⌝ }
-    ensures { λ _. ⌜ now (out .exit) ≡ written (listing 64 (parentsIn (now (b .entry))) x 0) (now (out .entry)) ⌝ }
-{
-    let zeros = image.zeros as usize;
-    put_pair(out, 0, x as u32, 0);
-    if marks(b, zeros, x) % 2 == 0 {
-        return;
-    }
-    write_below(b, zeros, x, 64, cursors, &mut out[2..]);
 }

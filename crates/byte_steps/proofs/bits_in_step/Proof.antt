@@ -4,9 +4,9 @@ use Prim.Native.Nat.{_+_, _-_, _*_, _≤_}
 use native.Mathlib.Omega.{arith}
 use Rattle.meaning.specs.Strings.{ones}
 use Rattle.meaning.specs.Bytes.{bitsFrom}
-use Rattle.bits.proofs.Values.{value-le}
+use Rattle.bit.proofs.Values.{value-le}
 use Rattle.byte_steps.specs.Steps.{StepAt}
-use Rattle.bits.proofs.Runs.{bits-ones-le, bits-next}
+use Rattle.tally.proofs.Runs.{bits-ones-le, bits-next}
 use Rattle.byte_steps.proofs.Stepping.{step-none, step-bit}
 use Rattle.byte_steps.proofs.bits_in_step.Statement.{statement}
 use Rattle.byte_steps.proofs.bits_in_step.Tie as tie

@@ -6,7 +6,7 @@ use native.Mathlib.Omega.{arith}
 use Rattle.meaning.specs.Strings.{ones}
 use Rattle.meaning.specs.Image.{stringIn}
 use Rattle.theory.proofs.InBlocks.{string-ones-le, block-more}
-use Rattle.bits.proofs.Runs.{bits-ones-le}
+use Rattle.tally.proofs.Runs.{bits-ones-le}
 use Rattle.counts.proofs.ones_in_string.Statement.{statement}
 use Rattle.counts.proofs.ones_in_string.Tie as tie
 

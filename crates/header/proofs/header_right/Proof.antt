@@ -2,9 +2,9 @@
 use mathlib.Core.Path.{sym, _∙_}
 use borrow.Author.Needs.{needs}
 use Rattle.theory.specs.Stages.{Header}
-use Rattle.counts.specs.Parts.{ZeroBytes}
+use Rattle.parts.specs.Parts.{ZeroBytes}
 use Rattle.header.proofs.Reserved.{words-zero, header-all, header-needs}
-use Rattle.counts.proofs.Saying.{says-same}
+use Rattle.parts.proofs.Saying.{says-same}
 use Rattle.header.proofs.header_right.Statement.{statement}
 use Rattle.header.proofs.header_right.Tie as tie
 

@@ -8,9 +8,9 @@ use lib.Dec.{eqb}
 use lib.ListN.{length}
 use Rattle.meaning.specs.Blocks.{blocksIn, wrongBlock}
 use Rattle.theory.proofs.Settled.{or-first, or-second, or-neither, below, beyond, between, unequal, equal}
-use Rattle.image.specs.declared.Checked.the-variants.{Sound, Refused}
-use Rattle.counts.proofs.Saying.{says-held, says-missed}
-use Rattle.image.proofs.Finding.{found-size, found-block, found-other, found-sound, staged, unstaged}
+use Rattle.checked.specs.declared.Checked.the-variants.{Sound, Refused}
+use Rattle.parts.proofs.Saying.{says-held, says-missed}
+use Rattle.checked.proofs.Finding.{found-size, found-block, found-other, found-sound, staged, unstaged}
 use borrow.Author.Needs.{needs}
 use Rattle.image.proofs.check.Statement.{statement}
 use Rattle.image.proofs.check.Tie as tie

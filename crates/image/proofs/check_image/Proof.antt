@@ -1,8 +1,8 @@
 -- `image::check_image` meets its contract.
 use mathlib.Core.Path.{sym, ap, _∙_}
 use Rattle.meaning.specs.Answers.{cameTo}
-use Rattle.image.specs.Checked.{answered}
-use Rattle.image.proofs.Calling.{image-answered}
+use Rattle.checked.specs.Checked.{answered}
+use Rattle.checked.proofs.Calling.{image-answered}
 use borrow.Author.Needs.{needs}
 use Rattle.image.proofs.check_image.Statement.{statement}
 use Rattle.image.proofs.check_image.Tie as tie

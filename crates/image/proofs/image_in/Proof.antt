@@ -3,7 +3,7 @@ use mathlib.Core.Path.{_≡_}
 use Prim.Native.Nat.{_*_}
 use native.Mathlib.Omega.{arith}
 use lib.ListN.{length}
-use Rattle.image.proofs.Finding.{image-read}
+use Rattle.checked.proofs.Finding.{image-read}
 use borrow.Author.Needs.{needs}
 use Rattle.image.proofs.image_in.Statement.{statement}
 use Rattle.image.proofs.image_in.Tie as tie

@@ -4,7 +4,7 @@ use native.Mathlib.Omega.{arith}
 use borrow.Author.Needs.{needs}
 use lib.ListN.{length}
 use Rattle.theory.proofs.Lowest.{bad-within}
-use Rattle.strings.proofs.Marking.{good-parents}
+use Rattle.entries.proofs.Marking.{good-parents}
 use Rattle.pack_scan.proofs.Telling.{answered}
 use Rattle.sizes.specs.ToJoin.{Sized}
 use Rattle.sizes.proofs.ToJoin.{told-right}

@@ -6,7 +6,7 @@ use Rattle.meaning.specs.Strings.{ones}
 use Rattle.meaning.specs.Image.{stringIn}
 use Rattle.parts.specs.Parts.{Counted}
 use Rattle.parts.proofs.Saying.{says-is}
-use Rattle.bits.proofs.Runs.{bits-ones-le}
+use Rattle.tally.proofs.Runs.{bits-ones-le}
 use Rattle.theory.proofs.InBlocks.{no-string, string-ones-le, full-more}
 use Rattle.parts.proofs.Pieces.{CountedTo, counted-more, counted-all, counted-last}
 use Rattle.keeping.proofs.counts_kept.Statement.{statement}

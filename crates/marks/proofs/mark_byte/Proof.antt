@@ -4,7 +4,7 @@ use lib.ListN.{length, set, length-set}
 use mathlib.Core.Path.{_∙_, sym, ap}
 use native.Mathlib.Omega.{arith}
 use Rattle.theory.specs.Layout.{samplePlace}
-use Rattle.blocks.specs.Sealed.{withWord}
+use Rattle.image_words.specs.Words.{withWord}
 use Rattle.marks.specs.Passes.{bytePlace}
 use Rattle.marks.proofs.Ending.{place-few, byte-plain, byte-sample, byte-length}
 use borrow.Author.Needs.{needs}

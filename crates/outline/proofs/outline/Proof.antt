@@ -5,8 +5,8 @@ use Prim.Native.Nat.{_*_, _≤_}
 use lib.ListN.{length, take, length-append}
 use native.Mathlib.Omega.{arith}
 use Rattle.meaning.specs.Image.{parentsIn}
-use Rattle.image.specs.declared.Checked.the-variants.{Sound}
-use Rattle.image.specs.Checked.{answered, checked}
+use Rattle.checked.specs.declared.Checked.the-variants.{Sound}
+use Rattle.checked.specs.Checked.{answered, checked}
 use Rattle.levels.proofs.Numbers.{parents-count}
 use Rattle.lines.specs.Lines.{heading, nodeLines, refusal}
 use Rattle.text.proofs.Putting.{both-put, put-length}

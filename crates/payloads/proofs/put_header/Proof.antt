@@ -1,6 +1,6 @@
 -- `payloads::put_header` meets its contract.
 use Rattle.payloads.specs.Passes.{headed}
-use Rattle.blocks.specs.Sealed.{withWord}
+use Rattle.image_words.specs.Words.{withWord}
 use mathlib.Core.Path.{ap, _∙_}
 use borrow.Author.Needs.{needs}
 use Rattle.payloads.proofs.put_header.Statement.{statement}

@@ -2,7 +2,7 @@
 use mathlib.Core.Path.{ap₂, _∙_}
 use Prim.Native.Nat.{_+_, _*_}
 use native.Mathlib.Omega.{arith}
-use Rattle.bits.proofs.Runs.{bits-ones-le}
+use Rattle.tally.proofs.Runs.{bits-ones-le}
 use Rattle.places.proofs.Reaching.{ones-twice}
 use Rattle.places.proofs.ones_in_four.Statement.{statement}
 use Rattle.places.proofs.ones_in_four.Tie as tie

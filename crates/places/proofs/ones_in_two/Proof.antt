@@ -5,7 +5,7 @@ use Prim.Native.Nat.{_+_}
 use native.Mathlib.Omega.{arith}
 use lib.ListN.{getD}
 use Rattle.meaning.specs.Strings.{ones}
-use Rattle.bits.proofs.Runs.{bits-ones-le}
+use Rattle.tally.proofs.Runs.{bits-ones-le}
 use Rattle.places.proofs.Reaching.{byte-here, ones-twice}
 use Rattle.places.proofs.ones_in_two.Statement.{statement}
 use Rattle.places.proofs.ones_in_two.Tie as tie

@@ -5,8 +5,8 @@ use Prim.Native.Nat.{ℕ, _+_, _≤_}
 use native.Mathlib.Omega.{arith}
 use Rattle.meaning.specs.Strings.{ones}
 use Rattle.theory.specs.Rank.{position}
-use Rattle.bits.specs.Appended.{byteBits}
-use Rattle.bits.proofs.Placing.{upper-ones}
+use Rattle.byte.specs.Byte.{byteBits}
+use Rattle.halves.proofs.Placing.{upper-ones}
 use Rattle.places.proofs.Halves.{half-there, half-place}
 use Rattle.places.proofs.Reaching.{byte-place-le}
 use Rattle.places.proofs.place_by_half.Statement.{statement}

@@ -6,7 +6,7 @@ use lib.ListN.{length}
 use Rattle.meaning.specs.Strings.{ones}
 use Rattle.meaning.specs.Bytes.{bitsFrom}
 use Rattle.theory.proofs.Packing.{bits-length, bits-cut}
-use Rattle.bits.proofs.Runs.{bits-ones-le}
+use Rattle.tally.proofs.Runs.{bits-ones-le}
 use Rattle.places.proofs.Reaching.{place-le, Reached, reached-first, reached-past, reached-place}
 use Rattle.places.proofs.place_from.Statement.{statement}
 use Rattle.places.proofs.place_from.Tie as tie

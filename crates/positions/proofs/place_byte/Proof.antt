@@ -5,7 +5,7 @@ use native.Mathlib.Omega.{arith}
 use lib.ListN.{length-set}
 use Rattle.meaning.specs.Bytes.{bitAt, bitsFrom}
 use Rattle.theory.proofs.Packing.{bits-length}
-use Rattle.bits.proofs.Values.{value-le}
+use Rattle.bit.proofs.Values.{value-le}
 use Rattle.positions.proofs.Pieces.{bit-piece}
 use Rattle.positions.proofs.Placing.{placed-bit, Down, down-first, down-next, down-done}
 use Rattle.positions.proofs.place_byte.Statement.{statement}

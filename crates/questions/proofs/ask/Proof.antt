@@ -2,7 +2,7 @@
 use mathlib.Core.Path.{sym, ap, ap₂, _∙_}
 use native.Mathlib.Omega.{arith}
 use Rattle.meaning.specs.Answers.{refusedWith, cameTo}
-use Rattle.image.specs.Checked.{answered}
+use Rattle.checked.specs.Checked.{answered}
 use Rattle.allowing.proofs.Turns.{questions-count}
 use Rattle.questions.proofs.Asking.{not-threes, too-many, threes, asked-size, asked-refused, asked-bad, asked-short, asked-answered}
 use borrow.Author.Needs.{needs}

@@ -4,7 +4,7 @@ use Prim.Native.Nat.{ℕ, _+_, _*_}
 use native.Mathlib.Omega.{arith}
 use Rattle.meaning.specs.Strings.{ones}
 use Rattle.meaning.specs.Bytes.{bitsFrom}
-use Rattle.counts.specs.Parts.{onesTo}
+use Rattle.parts.specs.Parts.{onesTo}
 use Rattle.rank.proofs.Counts.{behind-is}
 use Rattle.rank.proofs.from_behind.Statement.{statement}
 use Rattle.rank.proofs.from_behind.Tie as tie

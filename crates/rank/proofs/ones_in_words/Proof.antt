@@ -4,7 +4,7 @@ use Prim.Native.Nat.{_+_, _-_, _*_, _≤_}
 use native.Mathlib.Omega.{arith}
 use Rattle.meaning.specs.Strings.{ones}
 use Rattle.meaning.specs.Bytes.{bitsFrom}
-use Rattle.bits.proofs.Runs.{no-bits, bits-ones-le}
+use Rattle.tally.proofs.Runs.{no-bits, bits-ones-le}
 use Rattle.rank.proofs.Counts.{word-more}
 use Rattle.rank.proofs.ones_in_words.Statement.{statement}
 use Rattle.rank.proofs.ones_in_words.Tie as tie

@@ -2,7 +2,7 @@
 use mathlib.Core.Path.{_∙_}
 use Prim.Native.Nat.{_+_, _*_}
 use native.Mathlib.Omega.{arith}
-use Rattle.counts.proofs.Ones.{onesTo-le}
+use Rattle.parts.proofs.Ones.{onesTo-le}
 use Rattle.rank.proofs.Counts.{last-end, next-end}
 use Rattle.rank.proofs.ones_to_end.Statement.{statement}
 use Rattle.rank.proofs.ones_to_end.Tie as tie

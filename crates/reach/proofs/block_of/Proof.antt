@@ -2,8 +2,8 @@
 use mathlib.Core.Path.{_≡_, _∙_}
 use Prim.Native.Nat.{_+_, _-_, _*_, _≤_, _<_}
 use native.Mathlib.Omega.{arith}
-use Rattle.counts.specs.Parts.{onesTo}
-use Rattle.counts.proofs.Ones.{onesTo-mono}
+use Rattle.parts.specs.Parts.{onesTo}
+use Rattle.parts.proofs.Ones.{onesTo-mono}
 use Rattle.rank.proofs.Counts.{next-end}
 use Rattle.reach.proofs.block_of.Statement.{statement}
 use Rattle.reach.proofs.block_of.Tie as tie

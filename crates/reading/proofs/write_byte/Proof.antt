@@ -1,7 +1,7 @@
 -- `reading::write_byte` meets its contract.
 use Prim.Native.Nat.{_-_}
 use native.Mathlib.Omega.{arith}
-use Rattle.bits.proofs.Values.{value-le}
+use Rattle.bit.proofs.Values.{value-le}
 use Rattle.reading.proofs.Writing.{Entering, entering-first, entering-next, entering-last}
 use Rattle.reading.proofs.write_byte.Statement.{statement}
 use Rattle.reading.proofs.write_byte.Tie as tie

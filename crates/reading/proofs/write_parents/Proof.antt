@@ -3,7 +3,7 @@ use Prim.Native.Nat.{_-_, _*_}
 use mathlib.Core.Path.{_∙_}
 use borrow.Author.Needs.{needs}
 use native.Mathlib.Omega.{arith}
-use Rattle.bits.proofs.Values.{value-le}
+use Rattle.bit.proofs.Values.{value-le}
 use Rattle.reading.proofs.Writing.{Kept, kept-first, kept-next, kept-byte, byte-more, kept-again, kept-last, more}
 use Rattle.reading.proofs.write_parents.Statement.{statement}
 use Rattle.reading.proofs.write_parents.Tie as tie

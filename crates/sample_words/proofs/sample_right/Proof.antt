@@ -5,9 +5,9 @@ use Prim.Native.Nat.{_+_, _-_, _*_, _/_, _%_, _≤_}
 use native.Mathlib.Omega.{arith}
 use lib.ListN.{getD}
 use Rattle.theory.specs.Layout.{wordAt}
-use Rattle.bits.proofs.Runs.{bits-ones-le}
-use Rattle.bits.proofs.Words.{ending-le}
-use Rattle.counts.proofs.Saying.{says-is}
+use Rattle.tally.proofs.Runs.{bits-ones-le}
+use Rattle.tally.proofs.Words.{ending-le}
+use Rattle.parts.proofs.Saying.{says-is}
 use Rattle.sample_words.specs.Words.{NamesOne}
 use Rattle.sample_words.proofs.Naming.{named, named-inside, named-one, one-counted, counted-one}
 use Rattle.sample_words.proofs.sample_right.Statement.{statement}

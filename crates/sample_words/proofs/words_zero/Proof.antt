@@ -2,8 +2,8 @@
 use mathlib.Core.Path.{_≡_, sym, _∙_}
 use Prim.Native.Nat.{ℕ, _+_, _-_, _/_, _≤_, _<_}
 use native.Mathlib.Omega.{arith}
-use Rattle.sample_words.specs.Words.{sampleIn}
-use Rattle.counts.proofs.Within.{within-more}
+use Rattle.theory.specs.Layout.{sampleIn}
+use Rattle.parts.proofs.Within.{within-more}
 use Rattle.sample_words.proofs.words_zero.Statement.{statement}
 use Rattle.sample_words.proofs.words_zero.Tie as tie
 

@@ -3,11 +3,11 @@ use mathlib.Core.Path.{_≡_, ap, _∙_}
 use Prim.Native.Nat.{_+_, _-_, _*_, _/_, _≤_}
 use native.Mathlib.Omega.{arith}
 use Rattle.theory.specs.Layout.{wordAt}
-use Rattle.counts.specs.Parts.{onesTo}
+use Rattle.parts.specs.Parts.{onesTo}
 use Rattle.samples.specs.Samples.{SampledAt, SampledWithin}
-use Rattle.counts.proofs.Saying.{says-held, says-missed, says-same}
-use Rattle.counts.proofs.Within.{within-join}
-use Rattle.counts.proofs.Ones.{onesTo-mono}
+use Rattle.parts.proofs.Saying.{says-held, says-missed, says-same}
+use Rattle.parts.proofs.Within.{within-join}
+use Rattle.parts.proofs.Ones.{onesTo-mono}
 use Rattle.samples.proofs.all_sampled.Statement.{statement}
 use Rattle.samples.proofs.all_sampled.Tie as tie
 

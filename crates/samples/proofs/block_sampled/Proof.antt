@@ -5,8 +5,8 @@ use Prim.Native.Nat.{_+_, _*_}
 use native.Mathlib.Omega.{arith}
 use Rattle.piece_samples.specs.Pieces.{PieceSampled}
 use Rattle.samples.specs.Samples.{SampledWithin}
-use Rattle.counts.proofs.Saying.{says-same}
-use Rattle.counts.proofs.Ones.{onesTo-le, onesTo-block}
+use Rattle.parts.proofs.Saying.{says-same}
+use Rattle.parts.proofs.Ones.{onesTo-le, onesTo-block}
 use Rattle.samples.proofs.Sampling.{sampled-block, block-sampled}
 use Rattle.samples.proofs.block_sampled.Statement.{statement}
 use Rattle.samples.proofs.block_sampled.Tie as tie

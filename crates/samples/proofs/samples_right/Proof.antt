@@ -4,8 +4,8 @@ use Rattle.meaning.specs.Image.{stringIn}
 use Rattle.theory.specs.Stages.{Sampled}
 use Rattle.sample_words.specs.Words.{RestZero}
 use Rattle.samples.specs.Samples.{SampledWithin}
-use Rattle.counts.proofs.Ones.{onesTo-le}
-use Rattle.counts.proofs.Saying.{says-held, says-missed, says-same}
+use Rattle.parts.proofs.Ones.{onesTo-le}
+use Rattle.parts.proofs.Saying.{says-held, says-missed, says-same}
 use Rattle.samples.proofs.Sampling.{sampled, sampled-within, sampled-rest}
 use Rattle.samples.proofs.samples_right.Statement.{statement}
 use Rattle.samples.proofs.samples_right.Tie as tie

@@ -1,11 +1,11 @@
 -- `seal::image_of_parents` meets its contract.
 use Rattle.seal.proofs.Answers.{image-none, image-many, image-entry, image-room, image-made}
-use Rattle.payloads.proofs.Preparing.{few-marks}
+use Rattle.filling.proofs.Preparing.{few-marks}
 use lib.ListN.{length}
 use Rattle.theory.proofs.Lowest.{bad-within}
 use Rattle.theory.specs.Stages.{blocksNeeded}
 use Rattle.meaning.specs.Answers.{cameTo}
-use Rattle.strings.proofs.Marking.{good-parents}
+use Rattle.entries.proofs.Marking.{good-parents}
 use native.Mathlib.Omega.{arith}
 use mathlib.Core.Path.{sym, ap, ap₂, _∙_}
 use borrow.Author.Needs.{needs}

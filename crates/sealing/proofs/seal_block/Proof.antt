@@ -1,7 +1,7 @@
 -- `sealing::seal_block` meets its contract.
 use mathlib.Core.Path.{ap, _∙_}
 use Prim.Native.Nat.{_+_, _*_}
-use Rattle.sums.specs.Words.{withWord}
+use Rattle.image_words.specs.Words.{withWord}
 use Rattle.sealing.proofs.Laws.{sums-written}
 use borrow.Author.Needs.{needs}
 use Rattle.sealing.proofs.seal_block.Statement.{statement}

@@ -5,7 +5,7 @@ use native.Mathlib.Omega.{arith}
 use lib.ListN.{getD, length-set}
 use Rattle.meaning.specs.Bytes.{bitAt, bitsFrom}
 use Rattle.theory.proofs.Packing.{bits-length}
-use Rattle.bits.proofs.Values.{value-le}
+use Rattle.bit.proofs.Values.{value-le}
 use Rattle.positions.proofs.Pieces.{bit-piece}
 use Rattle.spread.proofs.Spreading.{spread-bit, Up, up-first, up-next, up-done}
 use Rattle.spread.proofs.spread_byte.Statement.{statement}

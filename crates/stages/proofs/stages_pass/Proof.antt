@@ -4,7 +4,7 @@ use mathlib.Core.Path.{sym, ap, ap₂, _∙_}
 use Prim.Native.Nat.{_+_}
 use native.Mathlib.Omega.{arith}
 use Rattle.theory.specs.Stages.{blocksNeeded}
-use Rattle.counts.proofs.Saying.{says-held, says-missed}
+use Rattle.parts.proofs.Saying.{says-held, says-missed}
 use Rattle.stages.proofs.Passing.{all-pass}
 use Rattle.stages.proofs.stages_pass.Statement.{statement}
 use Rattle.stages.proofs.stages_pass.Tie as tie

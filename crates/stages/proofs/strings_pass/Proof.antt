@@ -3,8 +3,8 @@ use borrow.Author.Needs.{needs}
 use mathlib.Core.Path.{sym}
 use Prim.Native.Nat.{_+_}
 use native.Mathlib.Omega.{arith}
-use Rattle.counts.proofs.Blanks.{kept-counts}
-use Rattle.counts.proofs.Saying.{says-held, says-missed, says-same}
+use Rattle.parts.proofs.Blanks.{kept-counts}
+use Rattle.parts.proofs.Saying.{says-held, says-missed, says-same}
 use Rattle.stages.proofs.strings_pass.Statement.{statement}
 use Rattle.stages.proofs.strings_pass.Tie as tie
 

@@ -5,8 +5,8 @@ use Prim.Native.Nat.{_+_, _*_}
 use native.Mathlib.Omega.{arith}
 use Rattle.byte_steps.specs.Steps.{StepAt}
 use Rattle.steps.specs.Steps.{StepWithin}
-use Rattle.counts.proofs.Saying.{says-same}
-use Rattle.counts.proofs.Ones.{onesTo-le}
+use Rattle.parts.proofs.Saying.{says-same}
+use Rattle.parts.proofs.Ones.{onesTo-le}
 use Rattle.steps.proofs.Stepping.{step-block, block-step}
 use Rattle.steps.proofs.block_in_step.Statement.{statement}
 use Rattle.steps.proofs.block_in_step.Tie as tie

@@ -5,10 +5,10 @@ use native.Mathlib.Omega.{arith}
 use Rattle.meaning.specs.Image.{stringIn}
 use Rattle.theory.specs.Layout.{wordAt}
 use Rattle.theory.specs.Stages.{InStep}
-use Rattle.counts.specs.Parts.{onesTo}
+use Rattle.parts.specs.Parts.{onesTo}
 use Rattle.steps.specs.Steps.{StepWithin}
-use Rattle.counts.proofs.Saying.{says-held, says-missed, says-same}
-use Rattle.counts.proofs.Within.{within-join}
+use Rattle.parts.proofs.Saying.{says-held, says-missed, says-same}
+use Rattle.parts.proofs.Within.{within-join}
 use Rattle.steps.proofs.Stepping.{no-first, in-step, step-within}
 use Rattle.steps.proofs.in_step.Statement.{statement}
 use Rattle.steps.proofs.in_step.Tie as tie

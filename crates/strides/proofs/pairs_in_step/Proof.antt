@@ -5,8 +5,8 @@ use native.Mathlib.Omega.{arith}
 use Rattle.meaning.specs.Strings.{ones}
 use Rattle.meaning.specs.Bytes.{bitsFrom}
 use Rattle.byte_steps.specs.Steps.{StepAt}
-use Rattle.bits.proofs.Runs.{no-bits}
-use Rattle.counts.proofs.Saying.{says-held, says-missed, says-same}
+use Rattle.tally.proofs.Runs.{no-bits}
+use Rattle.parts.proofs.Saying.{says-held, says-missed, says-same}
 use Rattle.byte_steps.proofs.Stepping.{step-none, step-join, step-part}
 use Rattle.strides.proofs.Stepping.{sixteen-more, sixteen-few}
 use Rattle.strides.proofs.pairs_in_step.Statement.{statement}

@@ -1,8 +1,8 @@
 -- `unseal::parents_of_image` meets its contract.
 use mathlib.Core.Path.{sym, ap, ap₂, _∙_}
 use Rattle.meaning.specs.Answers.{cameTo}
-use Rattle.image.specs.Checked.{answered}
-use Rattle.image.proofs.Finding.{sound-known}
+use Rattle.checked.specs.Checked.{answered}
+use Rattle.checked.proofs.Finding.{sound-known}
 use Rattle.unseal.proofs.Reading.{sound-fits, parents-refused, parents-short, parents-given}
 use borrow.Author.Needs.{needs}
 use Rattle.unseal.proofs.parents_of_image.Statement.{statement}

@@ -4,8 +4,8 @@ use mathlib.Core.Path.{refl, ap}
 use Prim.Native.Nat.{_+_, _*_}
 use native.Mathlib.Omega.{arith}
 use Rattle.byte_steps.specs.Steps.{StepAt}
-use Rattle.bits.proofs.Runs.{bits-ones-le}
-use Rattle.counts.proofs.Saying.{says-held, says-missed, says-same}
+use Rattle.tally.proofs.Runs.{bits-ones-le}
+use Rattle.parts.proofs.Saying.{says-held, says-missed, says-same}
 use Rattle.byte_steps.proofs.Stepping.{step-join, step-part}
 use Rattle.word_steps.proofs.Stepping.{step-ahead}
 use Rattle.word_steps.proofs.pair_in_step.Statement.{statement}

@@ -9,7 +9,7 @@ use Rattle.meaning.specs.Answers.{written}
 use Rattle.meaning.specs.Image.{parentsIn}
 use Rattle.meaning.specs.Listing.{listing}
 use Rattle.theory.specs.Stages.{nodesOf}
-use Rattle.image.specs.Checked.{imageIn}
+use Rattle.checked.specs.Checked.{imageIn}
 use Rattle.levels.specs.Levels.{low}
 use Rattle.writer.specs.Writing.{NodeIn, under, Wrote}
 use Rattle.levels.proofs.Numbers.{low-most, most-nodes, inner-or-leaf, last-or-not}

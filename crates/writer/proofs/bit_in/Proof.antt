@@ -4,7 +4,7 @@ use Prim.Native.Nat.{_+_, _-_, _*_, _/_, _%_, _^_}
 use native.Mathlib.Omega.{arith}
 use lib.Bits.{and-mask, bitAnd}
 use lib.ListN.{getD}
-use Rattle.bits.proofs.Values.{digit-value}
+use Rattle.bit.proofs.Values.{digit-value}
 use borrow.Author.Needs.{needs}
 use Rattle.writer.proofs.bit_in.Statement.{statement}
 use Rattle.writer.proofs.bit_in.Tie as tie

@@ -6,9 +6,9 @@ use Rattle.meaning.specs.Bytes.{bitAt, value}
 use Rattle.theory.specs.ByStrings.{bitOf}
 use Rattle.theory.specs.Layout.{bitPlace}
 use Rattle.theory.specs.Stages.{nodesOf, readR1, readR0, zerosFrom}
-use Rattle.image.specs.Checked.{imageIn}
+use Rattle.checked.specs.Checked.{imageIn}
 use Rattle.ranks.proofs.Strings.{ready1, ready0}
-use Rattle.bits.proofs.Values.{value-le}
+use Rattle.bit.proofs.Values.{value-le}
 use Rattle.runs.proofs.Own.{bit1, bit0}
 use borrow.Author.Needs.{needs}
 use Rattle.writer.proofs.marks.Statement.{statement}

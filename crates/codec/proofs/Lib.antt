@@ -1,2 +1,0 @@
-pub mod Ending
-pub mod Answers

@@ -1,4 +1,0 @@
-pub mod Saying
-pub mod Within
-pub mod Ones
-pub mod Blanks

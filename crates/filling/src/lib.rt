@@ -1,0 +1,48 @@
+// The image of a parent list: all payloads, and then the sums.
+ghost use mathlib.Core.Path.{_≡_};
+ghost use Prim.Native.Nat.{_+_, _*_, _≤_};
+ghost use Rattle.meaning.specs.Parents.{badEntry};
+ghost use Rattle.ends.specs.Listed.{marksIn};
+ghost use Rattle.marks.specs.Passes.{blocksFor};
+ghost use Rattle.payloads.specs.Passes.{Prepared};
+ghost use Rattle.meaning.specs.Answers.{written};
+ghost use Rattle.meaning.specs.Image.{imageOfString};
+ghost use Rattle.meaning.specs.Strings.{stringOf};
+use payloads::clear;
+use payloads::put_counts;
+use payloads::put_header;
+
+// All payloads of the image of a parent list with m runs of ones, which takes so many blocks.
+fn fill(image: &mut [u8], ps: &[u32], m: usize, blocks: usize)
+    requires { do ⌜ 1 ≤ (← ⟦ps.len()⟧) ⌝ }
+    requires { do ⌜ (← ⟦ps.len()⟧) ≤ 65535 ⌝ }
+    requires { ⌜ badEntry (now ps) ≡ 0 ⌝ }
+    requires { ⌜ m ≡ marksIn (now ps) ⌝ }
+    requires { ⌜ blocks ≡ blocksFor (now ps) ⌝ }
+    requires { do ⌜ 512 * blocks ≤ (← ⟦image.len()⟧) ⌝ }
+    ensures { λ _. ⌜ Prepared (now (image .entry)) (now (image .exit)) (now (ps .entry)) ⌝ }
+{
+    let n = ps.len();
+    let zeros = blocks::zeros_from(n);
+    let first = blocks::samples_from(n);
+    let second = first + blocks::sample_blocks(m);
+    clear(image, 512 * blocks);
+    marked::mark_runs(image, ps, zeros, first, second);
+    put_counts(image, 1, n);
+    put_counts(image, zeros, n + 1);
+    put_header(image, n as u32, m as u32, blocks as u32);
+}
+
+// The image of a parent list with m runs of ones, which takes so many blocks.
+pub fn write_image(image: &mut [u8], ps: &[u32], m: usize, blocks: usize)
+    requires { do ⌜ 1 ≤ (← ⟦ps.len()⟧) ⌝ }
+    requires { do ⌜ (← ⟦ps.len()⟧) ≤ 65535 ⌝ }
+    requires { ⌜ badEntry (now ps) ≡ 0 ⌝ }
+    requires { ⌜ m ≡ marksIn (now ps) ⌝ }
+    requires { ⌜ blocks ≡ blocksFor (now ps) ⌝ }
+    requires { do ⌜ 512 * blocks ≤ (← ⟦image.len()⟧) ⌝ }
+    ensures { λ _. ⌜ now (image .exit) ≡ written (imageOfString (stringOf (now (ps .entry)))) (now (image .entry)) ⌝ }
+{
+    fill(image, ps, m, blocks);
+    sealing::seal_blocks(image, blocks);
+}

@@ -1,0 +1,30 @@
+// The words of an image, little-endian: reading and writing one.
+ghost use mathlib.Core.Path.{_≡_};
+ghost use Prim.Native.Nat.{_+_, _%_, _<_, _≤_};
+ghost use Rattle.theory.specs.Layout.{wordAt};
+ghost use Rattle.image_words.specs.Words.{withWord};
+
+fn wide(x: u8) -> u32
+    ensures { λ r. ⌜ (r ≡ x) × (r < 256) ⌝ }
+{
+    x as u32
+}
+
+// The word at byte `at`, little-endian: four bytes, which become one load.
+pub fn word(b: &[u8], at: usize) -> u32
+    requires { do ⌜ at + 4 ≤ (← ⟦b.len()⟧) ⌝ }
+    ensures { λ r. ⌜ r ≡ wordAt (now (b .entry)) at ⌝ }
+{
+    wide(b[at]) + wide(b[at + 1]) * 256 + wide(b[at + 2]) * 65536 + wide(b[at + 3]) * 16777216
+}
+
+// Writes `x` at byte `at`, little-endian: four bytes, which become one store.
+pub fn put_word(b: &mut [u8], at: usize, x: u32)
+    requires { do ⌜ at + 4 ≤ (← ⟦b.len()⟧) ⌝ }
+    ensures { λ _. ⌜ now (b .exit) ≡ withWord (now (b .entry)) at x ⌝ }
+{
+    b[at] = (x % 256) as u8;
+    b[at + 1] = (x / 256 % 256) as u8;
+    b[at + 2] = (x / 65536 % 256) as u8;
+    b[at + 3] = (x / 16777216 % 256) as u8;
+}

@@ -1,0 +1,4 @@
+pub mod Gapping
+pub mod Following
+pub mod Running
+pub mod Parting

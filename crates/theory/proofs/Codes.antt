@@ -1,0 +1,59 @@
+-- What the code of an answer tells of the rows that it was settled by: which did not hold, and which did.
+use mathlib.Core.Path.{_≡_, refl, sym, ap, _∙_}
+use mathlib.Core.Bool.{Bool, true, false, true≢false, not, _||_}
+use mathlib.Core.List.{List, [], _∷_, _++_}
+use Prim.Native.Nat.{ℕ}
+use borrow.Author.Tests.{not-false, eqb-true}
+use lib.Dec.{eqb}
+use Rattle.meaning.specs.declared.Answer.{Answer}
+use Rattle.meaning.specs.Answers.{Row, settle}
+use Rattle.theory.specs.Rows.{NoneHolds}
+use Rattle.theory.proofs.Settled.{settle-here, settle-on, settle-none}
+
+-- ---- tests, read back
+
+pub neither-second : (s t : Bool) → (s || t) ≡ false → t ≡ false
+neither-second true t e = absurd (true≢false e)
+neither-second false t e = e
+
+pub not-unequal : (x y : ℕ) → not (eqb x y) ≡ false → x ≡ y
+not-unequal x y e = eqb-true x y (not-false (eqb x y) e)
+
+-- ---- rows
+
+-- every row has another code than c
+abbrev pub Others : ℕ → List Row → Type 0
+Others c [] = Unit
+Others c (r ∷ rs) = (r .code ≡ c → ⊥) × Others c rs
+
+module _ {A : Type 0} (before : A) (a : Answer) (after : A) (c : ℕ) where
+  -- a row of another code did not hold, and those below it gave the code
+  passed : (r : Row) (rs : List Row) → (r .code ≡ c → ⊥) → settle before (r ∷ rs) a after .answer .code ≡ c
+      → (r .holds ≡ false) × (settle before rs a after .answer .code ≡ c)
+  passed r rs d e = go (r .holds) refl
+    where
+      go : (b : Bool) → r .holds ≡ b → (r .holds ≡ false) × (settle before rs a after .answer .code ≡ c)
+      go true f = absurd (d (ap (λ o. o .answer .code) (sym (settle-here before a after r rs f)) ∙ e))
+      go false f = (f, ap (λ o. o .answer .code) (sym (settle-on before a after r rs f)) ∙ e)
+
+  -- a code that no row has is given where none holds
+  pub none-held : (rows : List Row) → Others c rows → settle before rows a after .answer .code ≡ c → NoneHolds rows × (a .code ≡ c)
+  none-held [] o e = (tt, ap (λ r. r .answer .code) (sym (settle-none before a after)) ∙ e)
+  none-held (r ∷ rs) o e =
+      let p = passed r rs (o .0) e in
+      let q = none-held rs (o .1) (p .1) in
+      ((p .0, q .0), q .1)
+
+  -- a code that one row has, and the result has not, is given with that row's place, where that row holds
+  pub row-held : (upper : List Row) (row : Row) (lower : List Row) → Others c upper → Others c lower → (a .code ≡ c → ⊥)
+      → settle before (upper ++ row ∷ lower) a after .answer .code ≡ c
+      → (row .holds ≡ true) × (settle before (upper ++ row ∷ lower) a after .answer .place ≡ row .place)
+  row-held [] row lower o l n e = go (row .holds) refl
+    where
+      go : (b : Bool) → row .holds ≡ b → (row .holds ≡ true) × (settle before (row ∷ lower) a after .answer .place ≡ row .place)
+      go true f = (f, ap (λ r. r .answer .place) (settle-here before a after row lower f))
+      go false f = absurd (n (none-held lower l (ap (λ r. r .answer .code) (sym (settle-on before a after row lower f)) ∙ e) .1))
+  row-held (r ∷ rs) row lower o l n e =
+      let p = passed r (rs ++ row ∷ lower) (o .0) e in
+      let q = row-held rs row lower (o .1) l n (p .1) in
+      (q .0, ap (λ r. r .answer .place) (settle-on before a after r (rs ++ row ∷ lower) (p .0)) ∙ q .1)
