@@ -1,7 +1,7 @@
 // Bits appended to a lent buffer.
 ghost use mathlib.Core.Path.{_≡_};
 ghost use Prim.Native.Nat.{_+_, _*_, _≤_};
-ghost use lib.ListN.{replicate, take};
+ghost use lib.ListN.{length, replicate, take};
 ghost use Rattle.meaning.specs.Strings.{O};
 ghost use Rattle.byte.specs.Byte.{byteBits};
 ghost use Rattle.appending.specs.Appended.{appended};
@@ -11,7 +11,7 @@ use byte::keep;
 pub fn append(buf: &mut [u8], at: usize, x: u8, n: usize)
     requires { ⌜ 1 ≤ n ⌝ }
     requires { ⌜ n ≤ 8 ⌝ }
-    requires { do ⌜ at + n ≤ 8 * (← ⟦buf.len()⟧) ⌝ }
+    requires { ⌜ at + n ≤ 8 * length (now buf) ⌝ }
     ensures { λ _. ⌜ now (buf .exit) ≡ appended (now (buf .entry)) at (take n (byteBits x)) ⌝ }
 {
     let i = at / 8;
@@ -26,7 +26,7 @@ pub fn append(buf: &mut [u8], at: usize, x: u8, n: usize)
 // Writes n zeros after the first `at` bits of `buf`: the rest of a byte, then whole bytes.
 pub fn blank(buf: &mut [u8], at: usize, n: usize)
     requires { ⌜ 1 ≤ n ⌝ }
-    requires { do ⌜ at + n ≤ 8 * (← ⟦buf.len()⟧) ⌝ }
+    requires { ⌜ at + n ≤ 8 * length (now buf) ⌝ }
     ensures { λ _. ⌜ now (buf .exit) ≡ appended (now (buf .entry)) at (replicate n O) ⌝ }
 {
     // the byte after the last zero's; at + n need not fit a usize

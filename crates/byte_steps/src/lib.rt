@@ -1,6 +1,7 @@
 // Two strings in step, of at most eight bytes: bit by bit and byte by byte.
 ghost use mathlib.Core.Path.{_≡_};
 ghost use Prim.Native.Nat.{_+_, _*_, _/_, _≤_};
+ghost use lib.ListN.{length};
 ghost use Rattle.meaning.specs.Strings.{ones};
 ghost use Rattle.meaning.specs.Bytes.{bitsFrom};
 ghost use Rattle.parts.specs.Says.{Says};
@@ -13,8 +14,8 @@ fn bits_in_step(b: &[u8], at1: usize, at0: usize, n: usize, ones1: usize, ones0:
     requires { ⌜ at1 ≤ 40000 ⌝ }
     requires { ⌜ at0 ≤ 40000 ⌝ }
     requires { ⌜ n ≤ 8 ⌝ }
-    requires { do ⌜ at1 + (n + 7) / 8 ≤ (← ⟦b.len()⟧) ⌝ }
-    requires { do ⌜ at0 + (n + 7) / 8 ≤ (← ⟦b.len()⟧) ⌝ }
+    requires { ⌜ at1 + (n + 7) / 8 ≤ length (now b) ⌝ }
+    requires { ⌜ at0 + (n + 7) / 8 ≤ length (now b) ⌝ }
     requires { ⌜ ones1 ≤ 70000 ⌝ }
     requires { ⌜ ones0 ≤ 70000 ⌝ }
     ensures { λ r. ⌜ Says r (StepAt (now (b .entry)) at1 at0 n ones1 ones0) ⌝ }
@@ -37,8 +38,8 @@ fn bits_in_step(b: &[u8], at1: usize, at0: usize, n: usize, ones1: usize, ones0:
 fn byte_in_step(b: &[u8], at1: usize, at0: usize, ones1: usize, ones0: usize, more: usize) -> bool
     requires { ⌜ at1 ≤ 40000 ⌝ }
     requires { ⌜ at0 ≤ 40000 ⌝ }
-    requires { do ⌜ at1 + 1 ≤ (← ⟦b.len()⟧) ⌝ }
-    requires { do ⌜ at0 + 1 ≤ (← ⟦b.len()⟧) ⌝ }
+    requires { ⌜ at1 + 1 ≤ length (now b) ⌝ }
+    requires { ⌜ at0 + 1 ≤ length (now b) ⌝ }
     requires { ⌜ ones1 ≤ 70000 ⌝ }
     requires { ⌜ ones0 ≤ 70000 ⌝ }
     requires { ⌜ more ≡ ones (bitsFrom (now b) (8 * at1) 8) ⌝ }
@@ -56,8 +57,8 @@ pub fn bytes_in_step(b: &[u8], at1: usize, at0: usize, n: usize, ones1: usize, o
     requires { ⌜ at1 ≤ 39900 ⌝ }
     requires { ⌜ at0 ≤ 39900 ⌝ }
     requires { ⌜ n ≤ 64 ⌝ }
-    requires { do ⌜ at1 + (n + 7) / 8 ≤ (← ⟦b.len()⟧) ⌝ }
-    requires { do ⌜ at0 + (n + 7) / 8 ≤ (← ⟦b.len()⟧) ⌝ }
+    requires { ⌜ at1 + (n + 7) / 8 ≤ length (now b) ⌝ }
+    requires { ⌜ at0 + (n + 7) / 8 ≤ length (now b) ⌝ }
     requires { ⌜ ones1 ≤ 69900 ⌝ }
     requires { ⌜ ones0 ≤ 69900 ⌝ }
     ensures { λ r. ⌜ Says r (StepAt (now (b .entry)) at1 at0 n ones1 ones0) ⌝ }

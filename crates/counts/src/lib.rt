@@ -1,6 +1,7 @@
 // Of one string of an image: its blocks, the ones it has, and its end.
 ghost use mathlib.Core.Path.{_≡_};
 ghost use Prim.Native.Nat.{_+_, _*_, _≤_};
+ghost use lib.ListN.{length};
 ghost use Rattle.meaning.specs.Strings.{ones};
 ghost use Rattle.meaning.specs.Image.{stringBlocks, stringIn};
 ghost use Rattle.theory.specs.Stages.{Ended, Kept};
@@ -18,7 +19,7 @@ fn string_kept(b: &[u8], first: usize, n: usize) -> bool
     requires { ⌜ 1 ≤ n ⌝ }
     requires { ⌜ n ≤ 65536 ⌝ }
     requires { ⌜ first ≤ 53 ⌝ }
-    requires { do ⌜ 512 * (first + stringBlocks n) ≤ (← ⟦b.len()⟧) ⌝ }
+    requires { ⌜ 512 * (first + stringBlocks n) ≤ length (now b) ⌝ }
     ensures { λ r. ⌜ Says r (Kept (now (b .entry)) first (stringIn (now (b .entry)) first 0 n)) ⌝ }
 {
     if !counts_kept(b, first, n) {
@@ -33,7 +34,7 @@ fn ones_in_string(b: &[u8], first: usize, n: usize) -> u32
     requires { ⌜ 1 ≤ n ⌝ }
     requires { ⌜ n ≤ 65536 ⌝ }
     requires { ⌜ first ≤ 53 ⌝ }
-    requires { do ⌜ 512 * (first + stringBlocks n) ≤ (← ⟦b.len()⟧) ⌝ }
+    requires { ⌜ 512 * (first + stringBlocks n) ≤ length (now b) ⌝ }
     requires { ⌜ Counted (now b) first n ⌝ }
     ensures { λ r. ⌜ r ≡ ones (stringIn (now (b .entry)) first 0 n) ⌝ }
 {
@@ -46,7 +47,7 @@ fn string_ended(b: &[u8], first: usize, n: usize, m: u32) -> bool
     requires { ⌜ 1 ≤ n ⌝ }
     requires { ⌜ n ≤ 65536 ⌝ }
     requires { ⌜ first ≤ 53 ⌝ }
-    requires { do ⌜ 512 * (first + stringBlocks n) ≤ (← ⟦b.len()⟧) ⌝ }
+    requires { ⌜ 512 * (first + stringBlocks n) ≤ length (now b) ⌝ }
     requires { ⌜ Counted (now b) first n ⌝ }
     ensures { λ r. ⌜ Says r (Ended m (stringIn (now (b .entry)) first 0 n)) ⌝ }
 {
@@ -61,7 +62,7 @@ pub fn string_right(b: &[u8], first: usize, n: usize, m: u32) -> bool
     requires { ⌜ 1 ≤ n ⌝ }
     requires { ⌜ n ≤ 65536 ⌝ }
     requires { ⌜ first ≤ 53 ⌝ }
-    requires { do ⌜ 512 * (first + stringBlocks n) ≤ (← ⟦b.len()⟧) ⌝ }
+    requires { ⌜ 512 * (first + stringBlocks n) ≤ length (now b) ⌝ }
     ensures { λ r. ⌜ Says r (StringRight (now (b .entry)) first n m) ⌝ }
 {
     // the counts first: what comes behind them reads those, and counts no block again

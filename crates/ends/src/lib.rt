@@ -31,8 +31,8 @@ fn differ(a: u32, b: u32) -> u8
 
 // The entry after entry `i`, counted from 0. After the last one comes one more than there are entries, as if a node had to be closed there.
 pub fn next_entry(ps: &[u32], i: usize) -> usize
-    requires { do ⌜ i < (← ⟦ps.len()⟧) ⌝ }
-    requires { do ⌜ (← ⟦ps.len()⟧) ≤ 65535 ⌝ }
+    requires { ⌜ i < length (now ps) ⌝ }
+    requires { ⌜ length (now ps) ≤ 65535 ⌝ }
     ensures { λ r. ⌜ r ≡ nextOf (drop (i + 1) (now (ps .entry))) (length (now (ps .entry)) + 1) ⌝ }
 {
     if i + 1 < ps.len() {
@@ -43,8 +43,8 @@ pub fn next_entry(ps: &[u32], i: usize) -> usize
 
 // How many runs of ones the string of a parent list has: as many as there are entries that differ from the next, the last among them.
 pub fn count_marks(ps: &[u32]) -> usize
-    requires { do ⌜ 1 ≤ (← ⟦ps.len()⟧) ⌝ }
-    requires { do ⌜ (← ⟦ps.len()⟧) ≤ 65535 ⌝ }
+    requires { ⌜ 1 ≤ length (now ps) ⌝ }
+    requires { ⌜ length (now ps) ≤ 65535 ⌝ }
     requires { ⌜ badEntry (now ps) ≡ 0 ⌝ }
     ensures { λ r. ⌜ r ≡ marksIn (now (ps .entry)) ⌝ }
 {
@@ -59,8 +59,8 @@ pub fn count_marks(ps: &[u32]) -> usize
 
 // Bit i of R1, and 0 after the last one.
 fn end_at(ps: &[u32], i: usize) -> u8
-    requires { do ⌜ 1 ≤ (← ⟦ps.len()⟧) ⌝ }
-    requires { do ⌜ (← ⟦ps.len()⟧) ≤ 65535 ⌝ }
+    requires { ⌜ 1 ≤ length (now ps) ⌝ }
+    requires { ⌜ length (now ps) ≤ 65535 ⌝ }
     requires { ⌜ badEntry (now ps) ≡ 0 ⌝ }
     requires { ⌜ i ≤ 70000 ⌝ }
     ensures { λ r. ⌜ (r ≡ value (getD (R1 (stringOf (now (ps .entry)))) i O)) × (r ≤ 1) ⌝ }
@@ -76,8 +76,8 @@ fn end_at(ps: &[u32], i: usize) -> u8
 
 // Eight bits of R1 as a byte, from bit i on. All of them have an entry after theirs, so that nothing branches on where the list ends.
 fn inner_ends(ps: &[u32], i: usize) -> u8
-    requires { do ⌜ i + 8 < (← ⟦ps.len()⟧) ⌝ }
-    requires { do ⌜ (← ⟦ps.len()⟧) ≤ 65535 ⌝ }
+    requires { ⌜ i + 8 < length (now ps) ⌝ }
+    requires { ⌜ length (now ps) ≤ 65535 ⌝ }
     requires { ⌜ badEntry (now ps) ≡ 0 ⌝ }
     ensures { λ r. ⌜ r ≡ number 8 (drop i (R1 (stringOf (now (ps .entry))))) ⌝ }
 {
@@ -92,8 +92,8 @@ fn inner_ends(ps: &[u32], i: usize) -> u8
 
 // The same at the end of the list: zeros after the last bit.
 fn last_ends(ps: &[u32], i: usize) -> u8
-    requires { do ⌜ i < (← ⟦ps.len()⟧) ⌝ }
-    requires { do ⌜ (← ⟦ps.len()⟧) ≤ 65535 ⌝ }
+    requires { ⌜ i < length (now ps) ⌝ }
+    requires { ⌜ length (now ps) ≤ 65535 ⌝ }
     requires { ⌜ badEntry (now ps) ≡ 0 ⌝ }
     ensures { λ r. ⌜ r ≡ number 8 (drop i (R1 (stringOf (now (ps .entry))))) ⌝ }
 {
@@ -108,8 +108,8 @@ fn last_ends(ps: &[u32], i: usize) -> u8
 
 // Eight bits of R1 as a byte, from bit i on.
 pub fn ends_from(ps: &[u32], i: usize) -> u8
-    requires { do ⌜ i < (← ⟦ps.len()⟧) ⌝ }
-    requires { do ⌜ (← ⟦ps.len()⟧) ≤ 65535 ⌝ }
+    requires { ⌜ i < length (now ps) ⌝ }
+    requires { ⌜ length (now ps) ≤ 65535 ⌝ }
     requires { ⌜ badEntry (now ps) ≡ 0 ⌝ }
     ensures { λ r. ⌜ r ≡ number 8 (drop i (R1 (stringOf (now (ps .entry))))) ⌝ }
 {

@@ -1,6 +1,7 @@
 // A parent list: its check, and its string written.
 ghost use mathlib.Core.Path.{_≡_};
 ghost use Prim.Native.Nat.{_+_, _*_, _≤_};
+ghost use lib.ListN.{length};
 ghost use Rattle.meaning.specs.Parents.{badEntry};
 ghost use Rattle.meaning.specs.Strings.{stringOf};
 ghost use Rattle.appending.specs.Appended.{appended};
@@ -13,8 +14,8 @@ fn wide(x: u32) -> usize
 
 // 0 if `ps` is a parent list, and else the lowest entry that breaks the rule.
 pub fn bad_entry(ps: &[u32]) -> usize
-    requires { do ⌜ 1 ≤ (← ⟦ps.len()⟧) ⌝ }
-    requires { do ⌜ (← ⟦ps.len()⟧) ≤ 65535 ⌝ }
+    requires { ⌜ 1 ≤ length (now ps) ⌝ }
+    requires { ⌜ length (now ps) ≤ 65535 ⌝ }
     ensures { λ r. ⌜ r ≡ badEntry (now (ps .entry)) ⌝ }
 {
     if ps[0] != 0 {
@@ -39,11 +40,11 @@ pub fn bad_entry(ps: &[u32]) -> usize
 // Writes the string of a parent list after the first `from` bits of a buffer: zeros, and among them a one for each entry, which comes
 // after the ones of earlier entries and as many zeros as the entry says.
 pub fn write_string(buf: &mut [u8], from: usize, ps: &[u32])
-    requires { do ⌜ 1 ≤ (← ⟦ps.len()⟧) ⌝ }
-    requires { do ⌜ (← ⟦ps.len()⟧) ≤ 65535 ⌝ }
+    requires { ⌜ 1 ≤ length (now ps) ⌝ }
+    requires { ⌜ length (now ps) ≤ 65535 ⌝ }
     requires { ⌜ badEntry (now ps) ≡ 0 ⌝ }
     requires { ⌜ from ≤ 131071 ⌝ }
-    requires { do ⌜ from + (2 * (← ⟦ps.len()⟧) + 1) ≤ 8 * (← ⟦buf.len()⟧) ⌝ }
+    requires { ⌜ from + (2 * length (now ps) + 1) ≤ 8 * length (now buf) ⌝ }
     ensures { λ _. ⌜ now (buf .exit) ≡ appended (now (buf .entry)) from (stringOf (now (ps .entry))) ⌝ }
 {
     appending::blank(buf, from, 2 * ps.len() + 1);

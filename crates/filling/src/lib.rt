@@ -1,6 +1,7 @@
 // The image of a parent list: all payloads, and then the sums.
 ghost use mathlib.Core.Path.{_≡_};
 ghost use Prim.Native.Nat.{_+_, _*_, _≤_};
+ghost use lib.ListN.{length};
 ghost use Rattle.meaning.specs.Parents.{badEntry};
 ghost use Rattle.ends.specs.Listed.{marksIn};
 ghost use Rattle.marks.specs.Passes.{blocksFor};
@@ -14,12 +15,12 @@ use payloads::put_header;
 
 // All payloads of the image of a parent list with m runs of ones, which takes so many blocks.
 fn fill(image: &mut [u8], ps: &[u32], m: usize, blocks: usize)
-    requires { do ⌜ 1 ≤ (← ⟦ps.len()⟧) ⌝ }
-    requires { do ⌜ (← ⟦ps.len()⟧) ≤ 65535 ⌝ }
+    requires { ⌜ 1 ≤ length (now ps) ⌝ }
+    requires { ⌜ length (now ps) ≤ 65535 ⌝ }
     requires { ⌜ badEntry (now ps) ≡ 0 ⌝ }
     requires { ⌜ m ≡ marksIn (now ps) ⌝ }
     requires { ⌜ blocks ≡ blocksFor (now ps) ⌝ }
-    requires { do ⌜ 512 * blocks ≤ (← ⟦image.len()⟧) ⌝ }
+    requires { ⌜ 512 * blocks ≤ length (now image) ⌝ }
     ensures { λ _. ⌜ Prepared (now (image .entry)) (now (image .exit)) (now (ps .entry)) ⌝ }
 {
     let n = ps.len();
@@ -35,12 +36,12 @@ fn fill(image: &mut [u8], ps: &[u32], m: usize, blocks: usize)
 
 // The image of a parent list with m runs of ones, which takes so many blocks.
 pub fn write_image(image: &mut [u8], ps: &[u32], m: usize, blocks: usize)
-    requires { do ⌜ 1 ≤ (← ⟦ps.len()⟧) ⌝ }
-    requires { do ⌜ (← ⟦ps.len()⟧) ≤ 65535 ⌝ }
+    requires { ⌜ 1 ≤ length (now ps) ⌝ }
+    requires { ⌜ length (now ps) ≤ 65535 ⌝ }
     requires { ⌜ badEntry (now ps) ≡ 0 ⌝ }
     requires { ⌜ m ≡ marksIn (now ps) ⌝ }
     requires { ⌜ blocks ≡ blocksFor (now ps) ⌝ }
-    requires { do ⌜ 512 * blocks ≤ (← ⟦image.len()⟧) ⌝ }
+    requires { ⌜ 512 * blocks ≤ length (now image) ⌝ }
     ensures { λ _. ⌜ now (image .exit) ≡ written (imageOfString (stringOf (now (ps .entry)))) (now (image .entry)) ⌝ }
 {
     fill(image, ps, m, blocks);

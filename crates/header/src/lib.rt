@@ -1,6 +1,7 @@
 // Block 0 of an image.
 ghost use mathlib.Core.Path.{_≡_};
 ghost use Prim.Native.Nat.{_*_, _≤_};
+ghost use lib.ListN.{length};
 ghost use Rattle.theory.specs.Stages.{Header};
 ghost use Rattle.parts.specs.Says.{Says};
 use blocks::blocks_needed;
@@ -9,7 +10,7 @@ use parts::zeros_between;
 
 // Is block 0 right: version, n, m, the number of blocks, and zeros behind them?
 pub fn header_right(b: &[u8], blocks: usize) -> bool
-    requires { do ⌜ (← ⟦b.len()⟧) ≡ 512 * blocks ⌝ }
+    requires { ⌜ length (now b) ≡ 512 * blocks ⌝ }
     requires { ⌜ 5 ≤ blocks ⌝ }
     requires { ⌜ blocks ≤ 53 ⌝ }
     ensures { λ r. ⌜ Says r (Header (now (b .entry))) ⌝ }

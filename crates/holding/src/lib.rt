@@ -1,6 +1,7 @@
 // What a pack is refused for, whether it is split or joined to.
 ghost use mathlib.Core.Path.{_≡_};
 ghost use Prim.Native.Nat.{_*_, _≤_};
+ghost use lib.ListN.{length};
 ghost use lib.Seq.{sets};
 ghost use Rattle.meaning.specs.Bytes.{bitsFrom};
 ghost use Rattle.meaning.specs.Packs.{sizes, starts};
@@ -17,7 +18,7 @@ use scan::FALLS;
 
 // The same, with one copy of the table for all trees.
 pub fn scan_pack(b: &[u8], n: usize, firsts: &mut [u32], counts: &mut [u32]) -> Pack
-    requires { do ⌜ n ≤ 8 * (← ⟦b.len()⟧) ⌝ }
+    requires { ⌜ n ≤ 8 * length (now b) ⌝ }
     requires { ⌜ n ≤ 131071 ⌝ }
     ensures { λ r. ⌜ foundOf r ≡ found (bitsFrom (now (b .entry)) 0 n) ⌝ }
     ensures { λ _. ⌜ now (firsts .exit) ≡ sets (now (firsts .entry)) 0 (starts (bitsFrom (now (b .entry)) 0 n)) ⌝ }
@@ -35,7 +36,7 @@ pub enum Held {
 
 // Do the first n bits hold so many trees? If they do, their first bits and node counts are noted as the scan notes them.
 pub fn trees_held(b: &[u8], n: usize, trees: usize, firsts: &mut [u32], counts: &mut [u32]) -> Held
-    requires { do ⌜ n ≤ 8 * (← ⟦b.len()⟧) ⌝ }
+    requires { ⌜ n ≤ 8 * length (now b) ⌝ }
     requires { ⌜ n ≤ 131071 ⌝ }
     requires { ⌜ trees ≤ 256 ⌝ }
     ensures { λ r. ⌜ r ≡ firstOf (packRows (now (b .entry)) n trees) ⌝ }

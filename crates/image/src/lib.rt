@@ -1,6 +1,7 @@
 // The whole check of an image.
 ghost use mathlib.Core.Path.{_≡_};
 ghost use Prim.Native.Nat.{_*_, _≤_};
+ghost use lib.ListN.{length};
 ghost use Rattle.meaning.specs.Answers.{cameTo};
 ghost use Rattle.meaning.specs.Calls.{checkImage};
 ghost use Rattle.theory.specs.Stages.{Header};
@@ -24,7 +25,7 @@ use wrong_blocks::wrong_block;
 
 // n, m and where the parts of an image begin, from a header that is right.
 fn image_in(b: &[u8], blocks: usize) -> Image
-    requires { do ⌜ (← ⟦b.len()⟧) ≡ 512 * blocks ⌝ }
+    requires { ⌜ length (now b) ≡ 512 * blocks ⌝ }
     requires { ⌜ 5 ≤ blocks ⌝ }
     requires { ⌜ blocks ≤ 53 ⌝ }
     requires { ⌜ Header (now b) ⌝ }

@@ -1,6 +1,7 @@
 // The words of an image, little-endian: reading and writing one.
 ghost use mathlib.Core.Path.{_≡_};
 ghost use Prim.Native.Nat.{_+_, _%_, _<_, _≤_};
+ghost use lib.ListN.{length};
 ghost use Rattle.theory.specs.Layout.{wordAt};
 ghost use Rattle.image_words.specs.Words.{withWord};
 
@@ -12,7 +13,7 @@ fn wide(x: u8) -> u32
 
 // The word at byte `at`, little-endian: four bytes, which become one load.
 pub fn word(b: &[u8], at: usize) -> u32
-    requires { do ⌜ at + 4 ≤ (← ⟦b.len()⟧) ⌝ }
+    requires { ⌜ at + 4 ≤ length (now b) ⌝ }
     ensures { λ r. ⌜ r ≡ wordAt (now (b .entry)) at ⌝ }
 {
     wide(b[at]) + wide(b[at + 1]) * 256 + wide(b[at + 2]) * 65536 + wide(b[at + 3]) * 16777216
@@ -20,7 +21,7 @@ pub fn word(b: &[u8], at: usize) -> u32
 
 // Writes `x` at byte `at`, little-endian: four bytes, which become one store.
 pub fn put_word(b: &mut [u8], at: usize, x: u32)
-    requires { do ⌜ at + 4 ≤ (← ⟦b.len()⟧) ⌝ }
+    requires { ⌜ at + 4 ≤ length (now b) ⌝ }
     ensures { λ _. ⌜ now (b .exit) ≡ withWord (now (b .entry)) at x ⌝ }
 {
     b[at] = (x % 256) as u8;

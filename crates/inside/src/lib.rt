@@ -1,6 +1,7 @@
 // Where a tree ends whose first two bits are read: a loop over bytes and a loop over bits, left by a label.
 ghost use mathlib.Core.Path.{_≡_};
 ghost use Prim.Native.Nat.{_+_, _-_, _*_, _/_, _<_, _≤_};
+ghost use lib.ListN.{length};
 ghost use Rattle.meaning.specs.Bytes.{bitsFrom};
 ghost use Rattle.closing.specs.Ends.{insideEnd};
 ghost use Rattle.falls.specs.Falls.{Falls};
@@ -32,7 +33,7 @@ fn end_of_byte(p: usize, n: usize) -> usize
 pub fn inside_end(b: &[u8], n: usize, from: usize, falls: &[[u8; 16]; 16]) -> TreeEnd
     requires { ⌜ from ≤ n ⌝ }
     requires { ⌜ n ≤ 131071 ⌝ }
-    requires { do ⌜ n ≤ 8 * (← ⟦b.len()⟧) ⌝ }
+    requires { ⌜ n ≤ 8 * length (now b) ⌝ }
     requires { ⌜ Falls (now falls) ⌝ }
     ensures { λ r. ⌜ endOf r ≡ insideEnd (bitsFrom (now (b .entry)) from (n - from)) from 0 65534 ⌝ }
 {

@@ -1,5 +1,6 @@
 // What the blocks of a string of an image keep: the counts of earlier ones, and zeros in the unused bits.
 ghost use Prim.Native.Nat.{_+_, _*_, _≤_};
+ghost use lib.ListN.{length};
 ghost use Rattle.meaning.specs.Image.{stringBlocks};
 ghost use Rattle.parts.specs.Says.{Says};
 ghost use Rattle.parts.specs.Parts.{Counted, Unused};
@@ -12,7 +13,7 @@ pub fn counts_kept(b: &[u8], first: usize, n: usize) -> bool
     requires { ⌜ 1 ≤ n ⌝ }
     requires { ⌜ n ≤ 65536 ⌝ }
     requires { ⌜ first ≤ 53 ⌝ }
-    requires { do ⌜ 512 * (first + stringBlocks n) ≤ (← ⟦b.len()⟧) ⌝ }
+    requires { ⌜ 512 * (first + stringBlocks n) ≤ length (now b) ⌝ }
     ensures { λ r. ⌜ Says r (Counted (now (b .entry)) first n) ⌝ }
 {
     let last = (n - 1) / 4000;
@@ -32,7 +33,7 @@ pub fn counts_kept(b: &[u8], first: usize, n: usize) -> bool
 // Of the 4,000 bits from byte `at` on, are those after the first `used` zero: the rest of a byte, then whole bytes?
 pub fn rest_zero(b: &[u8], at: usize, used: usize) -> bool
     requires { ⌜ used ≤ 4000 ⌝ }
-    requires { do ⌜ at + 500 ≤ (← ⟦b.len()⟧) ⌝ }
+    requires { ⌜ at + 500 ≤ length (now b) ⌝ }
     ensures { λ r. ⌜ Says r (Unused (now (b .entry)) at used) ⌝ }
 {
     let whole = used / 8;

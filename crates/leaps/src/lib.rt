@@ -1,6 +1,7 @@
 // Reading a tree by whole words and bytes, where their bits can neither close it nor pass its limit.
 ghost use mathlib.Core.Path.{_≡_};
 ghost use Prim.Native.Nat.{_*_, _≤_};
+ghost use lib.ListN.{length};
 ghost use Rattle.falls.specs.Falls.{Falls};
 ghost use Rattle.leaps.specs.Strides.{ReadOn, Stands};
 use byte::ones_in_byte;
@@ -24,7 +25,7 @@ fn wide(x: u32) -> usize
 pub fn over_words(b: &[u8], n: usize, from: Reading) -> Reading
     requires { ⌜ Stands n from ⌝ }
     requires { ⌜ n ≤ 131071 ⌝ }
-    requires { do ⌜ n ≤ 8 * (← ⟦b.len()⟧) ⌝ }
+    requires { ⌜ n ≤ 8 * length (now b) ⌝ }
     ensures { λ r. ⌜ ReadOn (now (b .entry)) n from r ⌝ }
 {
     let mut r = from;
@@ -49,7 +50,7 @@ pub fn over_words(b: &[u8], n: usize, from: Reading) -> Reading
 pub fn over_bytes(b: &[u8], n: usize, falls: &[[u8; 16]; 16], from: Reading) -> Reading
     requires { ⌜ Stands n from ⌝ }
     requires { ⌜ n ≤ 131071 ⌝ }
-    requires { do ⌜ n ≤ 8 * (← ⟦b.len()⟧) ⌝ }
+    requires { ⌜ n ≤ 8 * length (now b) ⌝ }
     requires { ⌜ Falls (now falls) ⌝ }
     ensures { λ r. ⌜ ReadOn (now (b .entry)) n from r ⌝ }
 {

@@ -21,11 +21,11 @@ fn byte_place(from: usize, c: usize) -> usize
 
 // R0: before each entry but the first a run of zeros ends, and one after the last. The byte of the entries at hand is in `byte`, and not yet in the image.
 fn mark_gaps(image: &mut [u8], ps: &[u32], zeros: usize)
-    requires { do ⌜ 1 ≤ (← ⟦ps.len()⟧) ⌝ }
-    requires { do ⌜ (← ⟦ps.len()⟧) ≤ 65535 ⌝ }
+    requires { ⌜ 1 ≤ length (now ps) ⌝ }
+    requires { ⌜ length (now ps) ≤ 65535 ⌝ }
     requires { ⌜ badEntry (now ps) ≡ 0 ⌝ }
     requires { ⌜ zeros ≤ 53 ⌝ }
-    requires { do ⌜ 512 * (zeros + stringBlocks (length (now ps) + 1)) ≤ (← ⟦image.len()⟧) ⌝ }
+    requires { ⌜ 512 * (zeros + stringBlocks (length (now ps) + 1)) ≤ length (now image) ⌝ }
     requires { ⌜ Blank (now image) zeros (stringBlocks (length (now ps) + 1)) ⌝ }
     ensures { λ _. ⌜ Gapped (now (image .entry)) (now (image .exit)) (now (ps .entry)) zeros ⌝ }
 {
@@ -52,13 +52,13 @@ fn mark_gaps(image: &mut [u8], ps: &[u32], zeros: usize)
 
 // The samples of R0 of a list with m runs: the run of zeros with the same number as a run of ones ends before the entry after it.
 fn follow(image: &mut [u8], ps: &[u32], first: usize, second: usize, m: usize)
-    requires { do ⌜ 1 ≤ (← ⟦ps.len()⟧) ⌝ }
-    requires { do ⌜ (← ⟦ps.len()⟧) ≤ 65535 ⌝ }
+    requires { ⌜ 1 ≤ length (now ps) ⌝ }
+    requires { ⌜ length (now ps) ≤ 65535 ⌝ }
     requires { ⌜ badEntry (now ps) ≡ 0 ⌝ }
     requires { ⌜ m ≡ marksIn (now ps) ⌝ }
     requires { ⌜ second ≤ 53 ⌝ }
     requires { ⌜ first + blocksOfSamples m ≤ second ⌝ }
-    requires { do ⌜ 512 * (second + blocksOfSamples m) ≤ (← ⟦image.len()⟧) ⌝ }
+    requires { ⌜ 512 * (second + blocksOfSamples m) ≤ length (now image) ⌝ }
     requires { ⌜ Known (now image) (now ps) first ⌝ }
     requires { ⌜ Blank (now image) second (blocksOfSamples m) ⌝ }
     ensures { λ _. ⌜ Followed (now (image .entry)) (now (image .exit)) (now (ps .entry)) second ⌝ }

@@ -21,8 +21,8 @@ fn mark_byte(image: &mut [u8], first: usize, b: usize, x: u8, k: usize) -> usize
     requires { ⌜ first ≤ 53 ⌝ }
     requires { ⌜ b ≤ 8191 ⌝ }
     requires { ⌜ k ≤ 65535 ⌝ }
-    requires { do ⌜ 512 * (b / 500 + 2) ≤ (← ⟦image.len()⟧) ⌝ }
-    requires { do ⌜ 512 * (first + blocksOfSamples (k + ones (byteBits x))) ≤ (← ⟦image.len()⟧) ⌝ }
+    requires { ⌜ 512 * (b / 500 + 2) ≤ length (now image) ⌝ }
+    requires { ⌜ 512 * (first + blocksOfSamples (k + ones (byteBits x))) ≤ length (now image) ⌝ }
     ensures { λ r. ⌜ (r ≡ k + ones (byteBits x)) × (now (image .exit) ≡ byteMarked (now (image .entry)) first b x k) ⌝ }
 {
     image[512 * (1 + b / 500) + 4 + b % 500] = x;
@@ -42,12 +42,12 @@ fn mark_byte(image: &mut [u8], first: usize, b: usize, x: u8, k: usize) -> usize
 
 // R1 and its samples, a byte at a time: where an entry differs from the next, a run of ones ends. Answers how many.
 pub fn mark_ends(image: &mut [u8], ps: &[u32], first: usize) -> usize
-    requires { do ⌜ 1 ≤ (← ⟦ps.len()⟧) ⌝ }
-    requires { do ⌜ (← ⟦ps.len()⟧) ≤ 65535 ⌝ }
+    requires { ⌜ 1 ≤ length (now ps) ⌝ }
+    requires { ⌜ length (now ps) ≤ 65535 ⌝ }
     requires { ⌜ badEntry (now ps) ≡ 0 ⌝ }
     requires { ⌜ first ≤ 53 ⌝ }
     requires { ⌜ 1 + stringBlocks (length (now ps)) ≤ first ⌝ }
-    requires { do ⌜ 512 * (first + blocksOfSamples (marksIn (now ps))) ≤ (← ⟦image.len()⟧) ⌝ }
+    requires { ⌜ 512 * (first + blocksOfSamples (marksIn (now ps))) ≤ length (now image) ⌝ }
     requires { ⌜ Blank (now image) 1 (stringBlocks (length (now ps))) ⌝ }
     requires { ⌜ Blank (now image) first (blocksOfSamples (marksIn (now ps))) ⌝ }
     ensures { λ r. ⌜ (r ≡ marksIn (now (ps .entry))) × Ended (now (image .entry)) (now (image .exit)) (now (ps .entry)) first ⌝ }

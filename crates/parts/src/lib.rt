@@ -1,6 +1,7 @@
 // Of one string of an image: its bits, and bytes that are zero.
 ghost use mathlib.Core.Path.{_≡_};
 ghost use Prim.Native.Nat.{_+_, _*_, _/_, _%_, _≤_, _<_};
+ghost use lib.ListN.{length};
 ghost use Rattle.meaning.specs.Bytes.{bitAt, value};
 ghost use Rattle.parts.specs.Says.{Says};
 ghost use Rattle.parts.specs.Parts.{ZeroBytes};
@@ -10,7 +11,7 @@ use bit::bit_at;
 pub fn string_bit(b: &[u8], first: usize, i: usize) -> u8
     requires { ⌜ i < 70000 ⌝ }
     requires { ⌜ first ≤ 53 ⌝ }
-    requires { do ⌜ 512 * (first + i / 4000 + 1) ≤ (← ⟦b.len()⟧) ⌝ }
+    requires { ⌜ 512 * (first + i / 4000 + 1) ≤ length (now b) ⌝ }
     ensures { λ r. ⌜ r ≡ value (bitAt (now (b .entry)) (8 * (512 * (first + i / 4000) + 4) + i % 4000)) ⌝ }
 {
     bit_at(b, 8 * (512 * (first + i / 4000) + 4) + i % 4000)
@@ -19,7 +20,7 @@ pub fn string_bit(b: &[u8], first: usize, i: usize) -> u8
 // Are the bytes from `from` to before `to` all zero? It looks at every one, whatever it finds, so that it becomes lanes.
 pub fn zeros_between(b: &[u8], from: usize, to: usize) -> bool
     requires { ⌜ from ≤ to ⌝ }
-    requires { do ⌜ to ≤ (← ⟦b.len()⟧) ⌝ }
+    requires { ⌜ to ≤ length (now b) ⌝ }
     ensures { λ r. ⌜ Says r (ZeroBytes (now (b .entry)) from to) ⌝ }
 {
     let mut seen: u8 = 0;

@@ -2,13 +2,13 @@
 ghost use mathlib.Core.Path.{_≡_};
 ghost use mathlib.Core.List.{_++_};
 ghost use Prim.Native.Nat.{_+_, _*_, _≤_};
-ghost use lib.ListN.{drop, replicate};
+ghost use lib.ListN.{length, drop, replicate};
 ghost use Rattle.meaning.specs.Image.{stringBlocks};
 ghost use Rattle.payloads.specs.Passes.{Counted, headed};
 
 // The first so many bytes become 0.
 pub fn clear(image: &mut [u8], bytes: usize)
-    requires { do ⌜ bytes ≤ (← ⟦image.len()⟧) ⌝ }
+    requires { ⌜ bytes ≤ length (now image) ⌝ }
     ensures { λ _. ⌜ now (image .exit) ≡ replicate bytes 0 ++ drop bytes (now (image .entry)) ⌝ }
 {
     let mut i: usize = 0;
@@ -22,7 +22,7 @@ pub fn clear(image: &mut [u8], bytes: usize)
 pub fn put_counts(image: &mut [u8], from: usize, n: usize)
     requires { ⌜ from ≤ 53 ⌝ }
     requires { ⌜ n ≤ 65536 ⌝ }
-    requires { do ⌜ 512 * (from + stringBlocks n) ≤ (← ⟦image.len()⟧) ⌝ }
+    requires { ⌜ 512 * (from + stringBlocks n) ≤ length (now image) ⌝ }
     ensures { λ _. ⌜ Counted (now (image .entry)) (now (image .exit)) from n ⌝ }
 {
     let end = blocks::string_blocks(n);
@@ -38,7 +38,7 @@ pub fn put_counts(image: &mut [u8], from: usize, n: usize)
 
 // The four words of the header.
 pub fn put_header(image: &mut [u8], n: u32, m: u32, blocks: u32)
-    requires { do ⌜ 512 ≤ (← ⟦image.len()⟧) ⌝ }
+    requires { ⌜ 512 ≤ length (now image) ⌝ }
     ensures { λ _. ⌜ now (image .exit) ≡ headed (now (image .entry)) n m blocks ⌝ }
 {
     image_words::put_word(image, 0, 1);

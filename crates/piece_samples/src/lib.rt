@@ -1,6 +1,7 @@
 // Are the samples right of the ones in a piece of a string? One after another.
 ghost use mathlib.Core.Path.{_≡_};
 ghost use Prim.Native.Nat.{ℕ, _+_, _*_, _≤_};
+ghost use lib.ListN.{length};
 ghost use Rattle.meaning.specs.Strings.{ones};
 ghost use Rattle.meaning.specs.Bytes.{bitsFrom};
 ghost use Rattle.theory.specs.Layout.{samplePlace};
@@ -35,8 +36,8 @@ pub fn each_sampled(
     requires { ⌜ k ≤ 65536 ⌝ }
     requires { ⌜ from ≤ 53 ⌝ }
     requires { ⌜ end ≡ k + ones (bitsFrom (now b) (8 * at) n) ⌝ }
-    requires { do ⌜ at + 504 ≤ (← ⟦b.len()⟧) ⌝ }
-    requires { do ⌜ 512 * (from + blocksOfSamples end) ≤ (← ⟦b.len()⟧) ⌝ }
+    requires { ⌜ at + 504 ≤ length (now b) ⌝ }
+    requires { ⌜ 512 * (from + blocksOfSamples end) ≤ length (now b) ⌝ }
     requires { ⌜ CountsBefore (now b) at (now table) ⌝ }
     ensures { λ r. ⌜ Says r (PieceSampled (now (b .entry)) from at n i k) ⌝ }
 {

@@ -12,7 +12,7 @@ use words::ones_in_word;
 
 // How many bits of the two bytes from `at` on are one.
 fn ones_in_two(b: &[u8], at: usize) -> u32
-    requires { do ⌜ at + 2 ≤ (← ⟦b.len()⟧) ⌝ }
+    requires { ⌜ at + 2 ≤ length (now b) ⌝ }
     ensures { λ r. ⌜ r ≡ ones (bitsFrom (now (b .entry)) (8 * at) 16) ⌝ }
 {
     ones_in_byte(b[at]) + ones_in_byte(b[at + 1])
@@ -20,7 +20,7 @@ fn ones_in_two(b: &[u8], at: usize) -> u32
 
 // How many bits of the four bytes from `at` on are one.
 fn ones_in_four(b: &[u8], at: usize) -> u32
-    requires { do ⌜ at + 4 ≤ (← ⟦b.len()⟧) ⌝ }
+    requires { ⌜ at + 4 ≤ length (now b) ⌝ }
     ensures { λ r. ⌜ r ≡ ones (bitsFrom (now (b .entry)) (8 * at) 32) ⌝ }
 {
     ones_in_two(b, at) + ones_in_two(b, at + 2)
@@ -47,7 +47,7 @@ fn place_by_half(x: u8, k: u32) -> u32
 // The place, from 1, of one number k of the eight bytes from `at` on: the half that has it, three times without a branch, and then in its byte.
 fn place_in_word(b: &[u8], at: usize, k: u32) -> usize
     requires { ⌜ 1 ≤ k ⌝ }
-    requires { do ⌜ at + 8 ≤ (← ⟦b.len()⟧) ⌝ }
+    requires { ⌜ at + 8 ≤ length (now b) ⌝ }
     requires { ⌜ k ≤ ones (bitsFrom (now b) (8 * at) 64) ⌝ }
     ensures { λ r. ⌜ r ≡ position (bitsFrom (now (b .entry)) (8 * at) 64) k ⌝ }
 {
@@ -74,7 +74,7 @@ fn place_in_word(b: &[u8], at: usize, k: u32) -> usize
 // The place, from 1, of one number k of the bits from byte `at` on. It stands before the last seven bytes, so that words can be read up to it.
 pub fn place_from(b: &[u8], at: usize, k: u32) -> usize
     requires { ⌜ 1 ≤ k ⌝ }
-    requires { do ⌜ (← ⟦b.len()⟧) ≤ 512 * 53 ⌝ }
+    requires { ⌜ length (now b) ≤ 512 * 53 ⌝ }
     requires { ⌜ k ≤ ones (bitsFrom (now b) (8 * at) (8 * (length (now b) - 7 - at))) ⌝ }
     ensures { λ r. ⌜ r ≡ position (bitsFrom (now (b .entry)) (8 * at) (8 * (length (now (b .entry)) - 7 - at))) k ⌝ }
 {

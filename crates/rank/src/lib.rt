@@ -1,6 +1,7 @@
 // Rank in a string of blocks: how many ones stand left of a position.
 ghost use mathlib.Core.Path.{_≡_};
 ghost use Prim.Native.Nat.{_+_, _*_, _≤_, _<_};
+ghost use lib.ListN.{length};
 ghost use Rattle.meaning.specs.Strings.{ones};
 ghost use Rattle.meaning.specs.Bytes.{bitsFrom};
 ghost use Rattle.meaning.specs.Image.{stringBlocks, stringIn};
@@ -15,7 +16,7 @@ use words::ones_in_word;
 // How many bits of the k words of eight bytes from `at` on are one.
 fn ones_in_words(b: &[u8], at: usize, k: usize) -> u32
     requires { ⌜ k ≤ 62 ⌝ }
-    requires { do ⌜ at + 8 * k ≤ (← ⟦b.len()⟧) ⌝ }
+    requires { ⌜ at + 8 * k ≤ length (now b) ⌝ }
     ensures { λ r. ⌜ r ≡ ones (bitsFrom (now (b .entry)) (8 * at) (64 * k)) ⌝ }
 {
     let mut count: u32 = 0;
@@ -31,7 +32,7 @@ fn ones_in_words(b: &[u8], at: usize, k: usize) -> u32
 fn from_front(b: &[u8], first: usize, j: usize, p: usize) -> usize
     requires { ⌜ p < 4000 ⌝ }
     requires { ⌜ first + j ≤ 106 ⌝ }
-    requires { do ⌜ 512 * (first + j + 1) ≤ (← ⟦b.len()⟧) ⌝ }
+    requires { ⌜ 512 * (first + j + 1) ≤ length (now b) ⌝ }
     requires { ⌜ wordAt (now b) (512 * (first + j)) ≡ onesTo (now b) first (4000 * j) ⌝ }
     ensures { λ r. ⌜ r ≡ onesTo (now (b .entry)) first (4000 * j + p) ⌝ }
 {
@@ -45,7 +46,7 @@ fn from_front(b: &[u8], first: usize, j: usize, p: usize) -> usize
 fn from_behind(b: &[u8], first: usize, j: usize, p: usize, end: usize) -> usize
     requires { ⌜ p < 4000 ⌝ }
     requires { ⌜ first + j ≤ 106 ⌝ }
-    requires { do ⌜ 512 * (first + j + 1) ≤ (← ⟦b.len()⟧) ⌝ }
+    requires { ⌜ 512 * (first + j + 1) ≤ length (now b) ⌝ }
     requires { ⌜ end ≤ 65536 ⌝ }
     requires { ⌜ end ≡ onesTo (now b) first (4000 * (j + 1)) ⌝ }
     ensures { λ r. ⌜ r ≡ onesTo (now (b .entry)) first (4000 * j + p) ⌝ }
@@ -62,7 +63,7 @@ fn ones_to_end(b: &[u8], first: usize, n: usize, m: usize, j: usize) -> usize
     requires { ⌜ n ≤ 65536 ⌝ }
     requires { ⌜ m ≡ ones (stringIn (now b) first 0 n) ⌝ }
     requires { ⌜ first ≤ 53 ⌝ }
-    requires { do ⌜ 512 * (first + stringBlocks n) ≤ (← ⟦b.len()⟧) ⌝ }
+    requires { ⌜ 512 * (first + stringBlocks n) ≤ length (now b) ⌝ }
     requires { ⌜ Kept (now b) first (stringIn (now b) first 0 n) ⌝ }
     requires { ⌜ j < stringBlocks n ⌝ }
     ensures { λ r. ⌜ (r ≡ onesTo (now (b .entry)) first (4000 * (j + 1))) × (r ≤ 65536) ⌝ }
@@ -80,7 +81,7 @@ pub fn rank(b: &[u8], first: usize, n: usize, m: usize, x: usize) -> usize
     requires { ⌜ n ≤ 65536 ⌝ }
     requires { ⌜ m ≡ ones (stringIn (now b) first 0 n) ⌝ }
     requires { ⌜ first ≤ 53 ⌝ }
-    requires { do ⌜ 512 * (first + stringBlocks n) ≤ (← ⟦b.len()⟧) ⌝ }
+    requires { ⌜ 512 * (first + stringBlocks n) ≤ length (now b) ⌝ }
     requires { ⌜ Kept (now b) first (stringIn (now b) first 0 n) ⌝ }
     ensures { λ r. ⌜ r ≡ onesLeft (stringIn (now (b .entry)) first 0 n) x ⌝ }
 {

@@ -1,6 +1,7 @@
 // The block of a one in a string of blocks, and its place in that block.
 ghost use mathlib.Core.Path.{_≡_};
 ghost use Prim.Native.Nat.{_+_, _*_, _/_, _≤_, _<_};
+ghost use lib.ListN.{length};
 ghost use Rattle.meaning.specs.Image.{stringBlocks, stringIn};
 ghost use Rattle.theory.specs.Rank.{position};
 ghost use Rattle.theory.specs.Stages.{Kept};
@@ -13,8 +14,8 @@ use places::place_from;
 pub fn place_after(b: &[u8], first: usize, i: usize, more: usize) -> usize
     requires { ⌜ i < 65536 ⌝ }
     requires { ⌜ first ≤ 53 ⌝ }
-    requires { do ⌜ (← ⟦b.len()⟧) ≤ 512 * 53 ⌝ }
-    requires { do ⌜ 512 * (first + i / 4000 + 1) ≤ (← ⟦b.len()⟧) ⌝ }
+    requires { ⌜ length (now b) ≤ 512 * 53 ⌝ }
+    requires { ⌜ 512 * (first + i / 4000 + 1) ≤ length (now b) ⌝ }
     requires { ⌜ onesTo (now b) first i + more < onesTo (now b) first (4000 * (i / 4000 + 1)) ⌝ }
     ensures { λ r. ⌜ r ≡ position (stringIn (now (b .entry)) first 0 (4000 * (i / 4000 + 1))) (onesTo (now (b .entry)) first i + more + 1) ⌝ }
 {
@@ -28,7 +29,7 @@ pub fn place_after(b: &[u8], first: usize, i: usize, more: usize) -> usize
 pub fn block_of(b: &[u8], first: usize, n: usize, j: usize, k: usize) -> usize
     requires { ⌜ n ≤ 65536 ⌝ }
     requires { ⌜ first ≤ 53 ⌝ }
-    requires { do ⌜ 512 * (first + stringBlocks n) ≤ (← ⟦b.len()⟧) ⌝ }
+    requires { ⌜ 512 * (first + stringBlocks n) ≤ length (now b) ⌝ }
     requires { ⌜ Kept (now b) first (stringIn (now b) first 0 n) ⌝ }
     requires { ⌜ j < stringBlocks n ⌝ }
     requires { ⌜ onesTo (now b) first (4000 * j) < k ⌝ }

@@ -11,7 +11,7 @@ use bit::bit_of;
 
 // Is a leftover bit set, after the first `n` bits of `b`?
 pub fn leftover_set(b: &[u8], n: usize) -> bool
-    requires { do ⌜ n ≤ 8 * (← ⟦b.len()⟧) ⌝ }
+    requires { ⌜ n ≤ 8 * length (now b) ⌝ }
     ensures { λ r. ⌜ r ≡ leftover (now (b .entry)) n ⌝ }
 {
     let used = n % 8;
@@ -48,7 +48,7 @@ fn write_byte(x: u8, p: usize, k: usize, out: &mut [u32]) -> usize
 
 // Writes the parents that the first `n` bits of `b` give, of which there are `nodes`: for each one the zeros before it.
 pub fn write_parents(b: &[u8], n: usize, nodes: usize, out: &mut [u32])
-    requires { do ⌜ n ≤ 8 * (← ⟦b.len()⟧) ⌝ }
+    requires { ⌜ n ≤ 8 * length (now b) ⌝ }
     requires { ⌜ n ≤ 131071 ⌝ }
     requires { ⌜ nodes ≡ ones (bitsFrom (now b) 0 n) ⌝ }
     requires { ⌜ nodes ≤ length (now out) ⌝ }

@@ -1,5 +1,6 @@
 // The words of samples, looked at by themselves: does one name the right bit, and are those after the last zero?
 ghost use Prim.Native.Nat.{_+_, _*_, _≤_};
+ghost use lib.ListN.{length};
 ghost use Rattle.meaning.specs.Strings.{ones};
 ghost use Rattle.meaning.specs.Bytes.{bitsFrom};
 ghost use Rattle.theory.specs.Layout.{wordAt};
@@ -25,8 +26,8 @@ pub fn sample_right(
     requires { ⌜ i ≤ 65536 ⌝ }
     requires { ⌜ 1 ≤ nth ⌝ }
     requires { ⌜ nth ≤ ones (bitsFrom (now b) (8 * at) n) ⌝ }
-    requires { do ⌜ p + 4 ≤ (← ⟦b.len()⟧) ⌝ }
-    requires { do ⌜ at + 504 ≤ (← ⟦b.len()⟧) ⌝ }
+    requires { ⌜ p + 4 ≤ length (now b) ⌝ }
+    requires { ⌜ at + 504 ≤ length (now b) ⌝ }
     requires { ⌜ CountsBefore (now b) at (now table) ⌝ }
     ensures { λ r. ⌜ Says r (NamesOne (now (b .entry)) at n i nth (wordAt (now (b .entry)) p)) ⌝ }
 {
@@ -50,7 +51,7 @@ pub fn sample_right(
 pub fn words_zero(b: &[u8], from: usize, m: u32) -> bool
     requires { ⌜ m ≤ 65536 ⌝ }
     requires { ⌜ from ≤ 53 ⌝ }
-    requires { do ⌜ 512 * (from + blocksOfSamples m) ≤ (← ⟦b.len()⟧) ⌝ }
+    requires { ⌜ 512 * (from + blocksOfSamples m) ≤ length (now b) ⌝ }
     ensures { λ r. ⌜ Says r (RestZero (now (b .entry)) from m) ⌝ }
 {
     let mut s = (m as usize + 63) / 64;

@@ -1,6 +1,7 @@
 // Are the samples of a string of an image right?
 ghost use mathlib.Core.Path.{_≡_};
 ghost use Prim.Native.Nat.{_+_, _*_, _≤_};
+ghost use lib.ListN.{length};
 ghost use Rattle.meaning.specs.Strings.{ones};
 ghost use Rattle.meaning.specs.Bytes.{bitsFrom};
 ghost use Rattle.meaning.specs.Image.{stringBlocks, stringIn};
@@ -24,8 +25,8 @@ fn piece_sampled(b: &[u8], from: usize, at: usize, n: usize, i: usize, k: usize,
     requires { ⌜ k ≤ 65536 ⌝ }
     requires { ⌜ from ≤ 53 ⌝ }
     requires { ⌜ end ≡ k + ones (bitsFrom (now b) (8 * at) n) ⌝ }
-    requires { do ⌜ at + 504 ≤ (← ⟦b.len()⟧) ⌝ }
-    requires { do ⌜ 512 * (from + blocksOfSamples end) ≤ (← ⟦b.len()⟧) ⌝ }
+    requires { ⌜ at + 504 ≤ length (now b) ⌝ }
+    requires { ⌜ 512 * (from + blocksOfSamples end) ≤ length (now b) ⌝ }
     ensures { λ r. ⌜ Says r (PieceSampled (now (b .entry)) from at n i k) ⌝ }
 {
     let mut table: [u32; 63] = [0; 63];
@@ -41,8 +42,8 @@ fn block_sampled(b: &[u8], from: usize, first: usize, j: usize, n: usize, end: u
     requires { ⌜ first ≤ 53 ⌝ }
     requires { ⌜ from ≤ 53 ⌝ }
     requires { ⌜ end ≡ onesTo (now b) first (4000 * j + n) ⌝ }
-    requires { do ⌜ 512 * (first + j + 1) ≤ (← ⟦b.len()⟧) ⌝ }
-    requires { do ⌜ 512 * (from + blocksOfSamples end) ≤ (← ⟦b.len()⟧) ⌝ }
+    requires { ⌜ 512 * (first + j + 1) ≤ length (now b) ⌝ }
+    requires { ⌜ 512 * (from + blocksOfSamples end) ≤ length (now b) ⌝ }
     requires { ⌜ wordAt (now b) (512 * (first + j)) ≡ onesTo (now b) first (4000 * j) ⌝ }
     ensures { λ r. ⌜ Says r (SampledWithin (now (b .entry)) from first (4000 * j) (4000 * j + n)) ⌝ }
 {
@@ -57,8 +58,8 @@ fn all_sampled(b: &[u8], from: usize, m: usize, first: usize, n: usize) -> bool
     requires { ⌜ first ≤ 53 ⌝ }
     requires { ⌜ from ≤ 53 ⌝ }
     requires { ⌜ m ≡ onesTo (now b) first n ⌝ }
-    requires { do ⌜ 512 * (first + stringBlocks n) ≤ (← ⟦b.len()⟧) ⌝ }
-    requires { do ⌜ 512 * (from + blocksOfSamples m) ≤ (← ⟦b.len()⟧) ⌝ }
+    requires { ⌜ 512 * (first + stringBlocks n) ≤ length (now b) ⌝ }
+    requires { ⌜ 512 * (from + blocksOfSamples m) ≤ length (now b) ⌝ }
     requires { ⌜ Counted (now b) first n ⌝ }
     ensures { λ r. ⌜ Says r (SampledWithin (now (b .entry)) from first 0 n) ⌝ }
 {
@@ -82,8 +83,8 @@ pub fn samples_right(b: &[u8], from: usize, m: u32, first: usize, n: usize) -> b
     requires { ⌜ m ≡ ones (stringIn (now b) first 0 n) ⌝ }
     requires { ⌜ first ≤ 53 ⌝ }
     requires { ⌜ from ≤ 53 ⌝ }
-    requires { do ⌜ 512 * (first + stringBlocks n) ≤ (← ⟦b.len()⟧) ⌝ }
-    requires { do ⌜ 512 * (from + blocksOfSamples m) ≤ (← ⟦b.len()⟧) ⌝ }
+    requires { ⌜ 512 * (first + stringBlocks n) ≤ length (now b) ⌝ }
+    requires { ⌜ 512 * (from + blocksOfSamples m) ≤ length (now b) ⌝ }
     requires { ⌜ Counted (now b) first n ⌝ }
     ensures { λ r. ⌜ Says r (Sampled (now (b .entry)) from m (stringIn (now (b .entry)) first 0 n)) ⌝ }
 {

@@ -1,6 +1,7 @@
 // Tree strings: where a tree ends.
 ghost use mathlib.Core.Path.{_≡_};
 ghost use Prim.Native.Nat.{_-_, _*_, _≤_};
+ghost use lib.ListN.{length};
 ghost use Rattle.meaning.specs.Bytes.{bitsFrom};
 ghost use Rattle.closing.specs.Ends.{treeEnd};
 ghost use Rattle.falls.specs.Falls.{Falls};
@@ -34,7 +35,7 @@ pub const FALLS: [[u8; 16]; 16] = [
 pub fn tree_end_by(b: &[u8], n: usize, at: usize, falls: &[[u8; 16]; 16]) -> TreeEnd
     requires { ⌜ at ≤ n ⌝ }
     requires { ⌜ n ≤ 131071 ⌝ }
-    requires { do ⌜ n ≤ 8 * (← ⟦b.len()⟧) ⌝ }
+    requires { ⌜ n ≤ 8 * length (now b) ⌝ }
     requires { ⌜ Falls (now falls) ⌝ }
     ensures { λ r. ⌜ endOf r ≡ treeEnd (bitsFrom (now (b .entry)) at (n - at)) at ⌝ }
 {
@@ -57,7 +58,7 @@ pub fn tree_end_by(b: &[u8], n: usize, at: usize, falls: &[[u8; 16]; 16]) -> Tre
 pub fn tree_end(b: &[u8], n: usize, at: usize) -> TreeEnd
     requires { ⌜ at ≤ n ⌝ }
     requires { ⌜ n ≤ 131071 ⌝ }
-    requires { do ⌜ n ≤ 8 * (← ⟦b.len()⟧) ⌝ }
+    requires { ⌜ n ≤ 8 * length (now b) ⌝ }
     ensures { λ r. ⌜ endOf r ≡ treeEnd (bitsFrom (now (b .entry)) at (n - at)) at ⌝ }
 {
     let falls = FALLS;

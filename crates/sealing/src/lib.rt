@@ -2,7 +2,7 @@
 ghost use mathlib.Core.Path.{_≡_};
 ghost use mathlib.Core.List.{_++_};
 ghost use Prim.Native.Nat.{_+_, _*_, _≤_};
-ghost use lib.ListN.{drop};
+ghost use lib.ListN.{length, drop};
 ghost use Rattle.meaning.specs.Blocks.{sealed};
 ghost use Rattle.sealing.specs.Sealed.{withSums, payloadsIn};
 use image_words::put_word;
@@ -10,7 +10,7 @@ use sums::block_sums;
 
 // Writes the sums of block `i` behind its payload.
 pub fn seal_block(b: &mut [u8], i: usize)
-    requires { do ⌜ 512 * i + 512 ≤ (← ⟦b.len()⟧) ⌝ }
+    requires { ⌜ 512 * i + 512 ≤ length (now b) ⌝ }
     requires { ⌜ i ≤ 52 ⌝ }
     ensures { λ _. ⌜ now (b .exit) ≡ withSums (now (b .entry)) i ⌝ }
 {
@@ -21,7 +21,7 @@ pub fn seal_block(b: &mut [u8], i: usize)
 
 // Writes the sums of the first `blocks` blocks.
 pub fn seal_blocks(b: &mut [u8], blocks: usize)
-    requires { do ⌜ 512 * blocks ≤ (← ⟦b.len()⟧) ⌝ }
+    requires { ⌜ 512 * blocks ≤ length (now b) ⌝ }
     requires { ⌜ blocks ≤ 53 ⌝ }
     ensures { λ _. ⌜ now (b .exit) ≡ sealed (payloadsIn (now (b .entry)) blocks) 0 ++ drop (512 * blocks) (now (b .entry)) ⌝ }
 {

@@ -1,5 +1,6 @@
 // The one next to a bit, on either side, in the 4000 bits of a block: found by words of eight bytes.
 ghost use Prim.Native.Nat.{_+_, _*_, _≤_, _<_};
+ghost use lib.ListN.{length};
 ghost use Rattle.seek.specs.Found.{LastOne, FirstOne};
 use words::whole_word;
 
@@ -29,7 +30,7 @@ fn word_from(k: usize) -> usize
 // It lends its bytes to no call that stays one: a list lent on is copied first, and the copy waits for the caller's stores.
 pub fn last_one(b: &[u8], at: usize, n: usize) -> usize
     requires { ⌜ n ≤ 4000 ⌝ }
-    requires { do ⌜ at + 500 ≤ (← ⟦b.len()⟧) ⌝ }
+    requires { ⌜ at + 500 ≤ length (now b) ⌝ }
     ensures { λ r. ⌜ LastOne (now (b .entry)) (8 * at) n r ⌝ }
 {
     let mut left = n;
@@ -48,7 +49,7 @@ pub fn last_one(b: &[u8], at: usize, n: usize) -> usize
 // How many of the first 4000 bits from byte `at` on come before the first one that is not among the first n, 4000 if there is none.
 pub fn first_one(b: &[u8], at: usize, n: usize) -> usize
     requires { ⌜ n ≤ 4000 ⌝ }
-    requires { do ⌜ at + 500 ≤ (← ⟦b.len()⟧) ⌝ }
+    requires { ⌜ at + 500 ≤ length (now b) ⌝ }
     ensures { λ r. ⌜ FirstOne (now (b .entry)) (8 * at) n r ⌝ }
 {
     let mut next = n;

@@ -1,6 +1,7 @@
 // Select in a string of blocks: the position of a one.
 ghost use mathlib.Core.Path.{_≡_};
 ghost use Prim.Native.Nat.{_+_, _*_, _≤_};
+ghost use lib.ListN.{length};
 ghost use Rattle.meaning.specs.Strings.{ones};
 ghost use Rattle.meaning.specs.Image.{stringBlocks, stringIn};
 ghost use Rattle.theory.specs.Rank.{position};
@@ -18,9 +19,9 @@ pub fn select(b: &[u8], first: usize, n: usize, from: usize, m: usize, k: usize)
     requires { ⌜ m ≡ ones (stringIn (now b) first 0 n) ⌝ }
     requires { ⌜ first ≤ 53 ⌝ }
     requires { ⌜ from ≤ 53 ⌝ }
-    requires { do ⌜ (← ⟦b.len()⟧) ≤ 512 * 53 ⌝ }
-    requires { do ⌜ 512 * (first + stringBlocks n) ≤ (← ⟦b.len()⟧) ⌝ }
-    requires { do ⌜ 512 * (from + blocksOfSamples m) ≤ (← ⟦b.len()⟧) ⌝ }
+    requires { ⌜ length (now b) ≤ 512 * 53 ⌝ }
+    requires { ⌜ 512 * (first + stringBlocks n) ≤ length (now b) ⌝ }
+    requires { ⌜ 512 * (from + blocksOfSamples m) ≤ length (now b) ⌝ }
     requires { ⌜ Kept (now b) first (stringIn (now b) first 0 n) ⌝ }
     requires { ⌜ Sampled (now b) from m (stringIn (now b) first 0 n) ⌝ }
     ensures { λ r. ⌜ r ≡ position (stringIn (now (b .entry)) first 0 n) k ⌝ }

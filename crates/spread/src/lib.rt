@@ -32,7 +32,7 @@ fn spread_byte(x: u8, n: usize, i: usize, p: usize, out: &mut [u32]) -> usize
 // The same of n bits from byte `at` on.
 fn spread_block(b: &[u8], at: usize, n: usize, i: usize, p: usize, out: &mut [u32]) -> usize
     requires { ⌜ n ≤ 4000 ⌝ }
-    requires { do ⌜ at + 501 ≤ (← ⟦b.len()⟧) ⌝ }
+    requires { ⌜ at + 501 ≤ length (now b) ⌝ }
     requires { ⌜ i + n ≤ p + ones (bitsFrom (now b) (8 * at) n) ⌝ }
     requires { ⌜ p + ones (bitsFrom (now b) (8 * at) n) < length (now out) ⌝ }
     ensures { λ r. ⌜ SpreadOut (bitsFrom (now (b .entry)) (8 * at) n) i p (now (out .entry)) (now (out .exit)) r ⌝ }
@@ -49,7 +49,7 @@ fn spread_block(b: &[u8], at: usize, n: usize, i: usize, p: usize, out: &mut [u3
 // The same of the first n bits of R1, which has one bit more, from entry 0 on.
 fn spread_string(b: &[u8], n: usize, p: usize, out: &mut [u32])
     requires { ⌜ n ≤ 65535 ⌝ }
-    requires { do ⌜ 512 * (1 + n / 4000 + 1) ≤ (← ⟦b.len()⟧) ⌝ }
+    requires { ⌜ 512 * (1 + n / 4000 + 1) ≤ length (now b) ⌝ }
     requires { ⌜ n ≤ p + ones (stringIn (now b) 1 0 n) ⌝ }
     requires { ⌜ p + ones (stringIn (now b) 1 0 n) < length (now out) ⌝ }
     ensures { λ _. ⌜ now (out .exit) ≡ spread (stringIn (now (b .entry)) 1 0 n) (drop p (now (out .entry))) ++ drop n (now (out .entry)) ⌝ }
@@ -68,7 +68,7 @@ fn spread_string(b: &[u8], n: usize, p: usize, out: &mut [u32])
 pub fn write_parents(b: &[u8], zeros: usize, n: usize, out: &mut [u32])
     requires { ⌜ n ≤ 65535 ⌝ }
     requires { ⌜ zeros ≡ zerosFrom n ⌝ }
-    requires { do ⌜ 512 * samplesFrom n ≤ (← ⟦b.len()⟧) ⌝ }
+    requires { ⌜ 512 * samplesFrom n ≤ length (now b) ⌝ }
     requires { ⌜ InRuns (stringIn (now b) 1 0 n) (stringIn (now b) zeros 0 (n + 1)) ⌝ }
     requires { ⌜ n ≤ length (now out) ⌝ }
     ensures { λ _. ⌜ now (out .exit) ≡ written (parentsOf (woven (stringIn (now (b .entry)) 1 0 n) (stringIn (now (b .entry)) zeros 0 (n + 1)))) (now (out .entry)) ⌝ }

@@ -1,6 +1,7 @@
 // The stages of the check of an image whose blocks all check.
 ghost use mathlib.Core.Path.{_≡_};
 ghost use Prim.Native.Nat.{_+_, _*_, _≤_};
+ghost use lib.ListN.{length};
 ghost use Rattle.theory.specs.Stages.{Stages, zerosFrom, samplesFrom, blocksOfSamples};
 ghost use Rattle.parts.specs.Says.{Says};
 ghost use Rattle.stages.specs.Passes.{StringsPass};
@@ -20,7 +21,7 @@ fn strings_pass(b: &[u8], n: usize, m: u32, zeros: usize, samples1: usize, sampl
     requires { ⌜ zeros ≡ zerosFrom n ⌝ }
     requires { ⌜ samples1 ≡ samplesFrom n ⌝ }
     requires { ⌜ samples0 ≡ samples1 + blocksOfSamples m ⌝ }
-    requires { do ⌜ 512 * (samples0 + blocksOfSamples m) ≤ (← ⟦b.len()⟧) ⌝ }
+    requires { ⌜ 512 * (samples0 + blocksOfSamples m) ≤ length (now b) ⌝ }
     requires { ⌜ samples0 ≤ 53 ⌝ }
     ensures { λ r. ⌜ Says r (StringsPass (now (b .entry)) n m zeros samples1 samples0) ⌝ }
 {
@@ -41,7 +42,7 @@ fn strings_pass(b: &[u8], n: usize, m: u32, zeros: usize, samples1: usize, sampl
 
 // Of an image whose blocks all check: does it pass the stages behind that?
 pub fn stages_pass(b: &[u8], blocks: usize) -> bool
-    requires { do ⌜ (← ⟦b.len()⟧) ≡ 512 * blocks ⌝ }
+    requires { ⌜ length (now b) ≡ 512 * blocks ⌝ }
     requires { ⌜ 5 ≤ blocks ⌝ }
     requires { ⌜ blocks ≤ 53 ⌝ }
     ensures { λ r. ⌜ Says r (Stages (now (b .entry))) ⌝ }

@@ -1,6 +1,7 @@
 // Are the runs of the two strings of an image in step?
 ghost use mathlib.Core.Path.{_≡_};
 ghost use Prim.Native.Nat.{_+_, _*_, _≤_};
+ghost use lib.ListN.{length};
 ghost use Rattle.meaning.specs.Image.{stringIn};
 ghost use Rattle.theory.specs.Layout.{wordAt};
 ghost use Rattle.theory.specs.Stages.{InStep, zerosFrom, samplesFrom};
@@ -16,8 +17,8 @@ fn block_in_step(b: &[u8], zeros: usize, j: usize, n: usize) -> bool
     requires { ⌜ n ≤ 4000 ⌝ }
     requires { ⌜ j ≤ 16 ⌝ }
     requires { ⌜ zeros ≤ 53 ⌝ }
-    requires { do ⌜ 512 * (1 + j + 1) ≤ (← ⟦b.len()⟧) ⌝ }
-    requires { do ⌜ 512 * (zeros + j + 1) ≤ (← ⟦b.len()⟧) ⌝ }
+    requires { ⌜ 512 * (1 + j + 1) ≤ length (now b) ⌝ }
+    requires { ⌜ 512 * (zeros + j + 1) ≤ length (now b) ⌝ }
     requires { ⌜ wordAt (now b) (512 * (1 + j)) ≡ onesTo (now b) 1 (4000 * j) ⌝ }
     requires { ⌜ wordAt (now b) (512 * (zeros + j)) ≡ onesTo (now b) zeros (4000 * j) ⌝ }
     ensures { λ r. ⌜ Says r (StepWithin (now (b .entry)) zeros (4000 * j) (4000 * j + n)) ⌝ }
@@ -38,8 +39,8 @@ fn block_in_step(b: &[u8], zeros: usize, j: usize, n: usize) -> bool
 fn full_block_in_step(b: &[u8], zeros: usize, j: usize) -> bool
     requires { ⌜ j ≤ 16 ⌝ }
     requires { ⌜ zeros ≤ 53 ⌝ }
-    requires { do ⌜ 512 * (1 + j + 2) ≤ (← ⟦b.len()⟧) ⌝ }
-    requires { do ⌜ 512 * (zeros + j + 1) ≤ (← ⟦b.len()⟧) ⌝ }
+    requires { ⌜ 512 * (1 + j + 2) ≤ length (now b) ⌝ }
+    requires { ⌜ 512 * (zeros + j + 1) ≤ length (now b) ⌝ }
     requires { ⌜ wordAt (now b) (512 * (1 + j)) ≡ onesTo (now b) 1 (4000 * j) ⌝ }
     requires { ⌜ wordAt (now b) (512 * (1 + j + 1)) ≡ onesTo (now b) 1 (4000 * j + 4000) ⌝ }
     requires { ⌜ wordAt (now b) (512 * (zeros + j)) ≡ onesTo (now b) zeros (4000 * j) ⌝ }
@@ -57,7 +58,7 @@ pub fn in_step(b: &[u8], zeros: usize, n: usize) -> bool
     requires { ⌜ 1 ≤ n ⌝ }
     requires { ⌜ n ≤ 65535 ⌝ }
     requires { ⌜ zeros ≡ zerosFrom n ⌝ }
-    requires { do ⌜ 512 * samplesFrom n ≤ (← ⟦b.len()⟧) ⌝ }
+    requires { ⌜ 512 * samplesFrom n ≤ length (now b) ⌝ }
     requires { ⌜ Counted (now b) 1 n ⌝ }
     requires { ⌜ Counted (now b) zeros (n + 1) ⌝ }
     ensures { λ r. ⌜ Says r (InStep (stringIn (now (b .entry)) 1 0 n) (stringIn (now (b .entry)) zeros 0 (n + 1))) ⌝ }

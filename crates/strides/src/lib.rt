@@ -1,5 +1,6 @@
 // Two strings in step, of many bytes: eight and sixteen at a time.
 ghost use Prim.Native.Nat.{_+_, _/_, _≤_};
+ghost use lib.ListN.{length};
 ghost use Rattle.parts.specs.Says.{Says};
 ghost use Rattle.byte_steps.specs.Steps.{StepAt};
 use byte_steps::bytes_in_step;
@@ -12,8 +13,8 @@ fn words_in_step(b: &[u8], at1: usize, at0: usize, n: usize, ones1: usize, ones0
     requires { ⌜ at1 ≤ 39000 ⌝ }
     requires { ⌜ at0 ≤ 39000 ⌝ }
     requires { ⌜ n ≤ 200 ⌝ }
-    requires { do ⌜ at1 + (n + 7) / 8 ≤ (← ⟦b.len()⟧) ⌝ }
-    requires { do ⌜ at0 + (n + 7) / 8 ≤ (← ⟦b.len()⟧) ⌝ }
+    requires { ⌜ at1 + (n + 7) / 8 ≤ length (now b) ⌝ }
+    requires { ⌜ at0 + (n + 7) / 8 ≤ length (now b) ⌝ }
     requires { ⌜ ones1 ≤ 69500 ⌝ }
     requires { ⌜ ones0 ≤ 69500 ⌝ }
     ensures { λ r. ⌜ Says r (StepAt (now (b .entry)) at1 at0 n ones1 ones0) ⌝ }
@@ -38,8 +39,8 @@ pub fn pairs_in_step(b: &[u8], at1: usize, at0: usize, n: usize, ones1: usize, o
     requires { ⌜ at1 ≤ 38000 ⌝ }
     requires { ⌜ at0 ≤ 38000 ⌝ }
     requires { ⌜ n ≤ 4000 ⌝ }
-    requires { do ⌜ at1 + 500 ≤ (← ⟦b.len()⟧) ⌝ }
-    requires { do ⌜ at0 + 500 ≤ (← ⟦b.len()⟧) ⌝ }
+    requires { ⌜ at1 + 500 ≤ length (now b) ⌝ }
+    requires { ⌜ at0 + 500 ≤ length (now b) ⌝ }
     requires { ⌜ ones1 ≤ 65000 ⌝ }
     requires { ⌜ ones0 ≤ 65000 ⌝ }
     ensures { λ r. ⌜ Says r (StepAt (now (b .entry)) at1 at0 n ones1 ones0) ⌝ }

@@ -11,7 +11,7 @@ use positions::place_byte;
 fn place_block(b: &[u8], at: usize, n: usize, i: usize, k: usize, out: &mut [u32]) -> usize
     requires { ⌜ n ≤ 4000 ⌝ }
     requires { ⌜ i + n ≤ 65535 ⌝ }
-    requires { do ⌜ at + 501 ≤ (← ⟦b.len()⟧) ⌝ }
+    requires { ⌜ at + 501 ≤ length (now b) ⌝ }
     requires { ⌜ ones (bitsFrom (now b) (8 * at) n) < k ⌝ }
     requires { ⌜ k ≤ length (now out) ⌝ }
     ensures { λ r. ⌜ Placed (bitsFrom (now (b .entry)) (8 * at) n) i k (now (out .entry)) (now (out .exit)) r ⌝ }
@@ -33,7 +33,7 @@ fn place_block(b: &[u8], at: usize, n: usize, i: usize, k: usize, out: &mut [u32
 pub fn place_string(b: &[u8], first: usize, n: usize, out: &mut [u32]) -> usize
     requires { ⌜ n ≤ 65535 ⌝ }
     requires { ⌜ first ≤ 53 ⌝ }
-    requires { do ⌜ 512 * (first + n / 4000 + 1) ≤ (← ⟦b.len()⟧) ⌝ }
+    requires { ⌜ 512 * (first + n / 4000 + 1) ≤ length (now b) ⌝ }
     requires { ⌜ ones (stringIn (now b) first 0 n) < n ⌝ }
     requires { ⌜ n ≤ length (now out) ⌝ }
     ensures { λ r. ⌜ Placed (stringIn (now (b .entry)) first 0 n) 0 n (now (out .entry)) (now (out .exit)) r ⌝ }

@@ -1,7 +1,7 @@
 // The two sums of a block's words.
 ghost use mathlib.Core.Path.{_≡_};
 ghost use Prim.Native.Nat.{_+_, _%_, _^_, _<_, _≤_};
-ghost use lib.ListN.{take, drop};
+ghost use lib.ListN.{length, take, drop};
 ghost use Rattle.meaning.specs.Blocks.{sums, words};
 ghost use Rattle.sums.specs.Lanes.{sOf, tOf, sumsOf};
 use image_words::word;
@@ -49,7 +49,7 @@ fn joined(start: u32, a: Sums, b: Sums, c: Sums, d: Sums) -> Sums
 
 // The sums of the 126 words from byte `at` on, s from `start` and t from 0: s takes in each word, and then t takes in s. Four lanes, which run side by side, and the last two words.
 pub fn block_sums(b: &[u8], at: usize, start: u32) -> Sums
-    requires { do ⌜ at + 504 ≤ (← ⟦b.len()⟧) ⌝ }
+    requires { ⌜ at + 504 ≤ length (now b) ⌝ }
     ensures { λ r. ⌜ sumsOf r ≡ sums (words (take 504 (drop at (now (b .entry))))) start 0 ⌝ }
 {
     let mut l0 = Sums { s: 0, t: 0 };

@@ -1,6 +1,7 @@
 // Ones counted in a run of bits, in part of eight bytes, and in common to two words of eight bytes.
 ghost use mathlib.Core.Path.{_≡_};
 ghost use Prim.Native.Nat.{_+_, _*_, _/_, _<_, _≤_};
+ghost use lib.ListN.{length};
 ghost use Rattle.meaning.specs.Strings.{ones};
 ghost use Rattle.meaning.specs.Bytes.{bitAt, bitsFrom, value};
 ghost use Rattle.tally.specs.Both.{both};
@@ -12,7 +13,7 @@ use words::whole_word;
 // How many of the n bits from byte `at` on are one: words of eight bytes, then bytes, then the front of the last byte.
 pub fn ones_from(b: &[u8], at: usize, n: usize) -> u32
     requires { ⌜ n ≤ 4000 ⌝ }
-    requires { do ⌜ at + (n + 7) / 8 ≤ (← ⟦b.len()⟧) ⌝ }
+    requires { ⌜ at + (n + 7) / 8 ≤ length (now b) ⌝ }
     ensures { λ r. ⌜ r ≡ ones (bitsFrom (now (b .entry)) (8 * at) n) ⌝ }
 {
     let whole = n / 8;
@@ -35,7 +36,7 @@ pub fn ones_from(b: &[u8], at: usize, n: usize) -> u32
 // How many of the first n bits from byte `at` on are one, of the 64 in eight bytes.
 pub fn ones_before(b: &[u8], at: usize, n: usize) -> u32
     requires { ⌜ n < 64 ⌝ }
-    requires { do ⌜ at + 8 ≤ (← ⟦b.len()⟧) ⌝ }
+    requires { ⌜ at + 8 ≤ length (now b) ⌝ }
     ensures { λ r. ⌜ r ≡ ones (bitsFrom (now (b .entry)) (8 * at) n) ⌝ }
 {
     // two shifts, since 64 is too far for one
@@ -45,7 +46,7 @@ pub fn ones_before(b: &[u8], at: usize, n: usize) -> u32
 // How many of the bits from byte `at` on up to the one that p come before are one, if that one is; else 0.
 pub fn ones_ending(b: &[u8], at: usize, p: usize) -> u32
     requires { ⌜ p < 64 ⌝ }
-    requires { do ⌜ at + 8 ≤ (← ⟦b.len()⟧) ⌝ }
+    requires { ⌜ at + 8 ≤ length (now b) ⌝ }
     ensures { λ r. ⌜ r ≡ value (bitAt (now (b .entry)) (8 * at + p)) * ones (bitsFrom (now (b .entry)) (8 * at) (p + 1)) ⌝ }
 {
     // a product, not a branch on the bit
@@ -55,8 +56,8 @@ pub fn ones_ending(b: &[u8], at: usize, p: usize) -> u32
 
 // At how many of 64 places both the bits from byte `at` on and those from byte `other` on are one.
 pub fn ones_in_both(b: &[u8], at: usize, other: usize) -> u32
-    requires { do ⌜ at + 8 ≤ (← ⟦b.len()⟧) ⌝ }
-    requires { do ⌜ other + 8 ≤ (← ⟦b.len()⟧) ⌝ }
+    requires { ⌜ at + 8 ≤ length (now b) ⌝ }
+    requires { ⌜ other + 8 ≤ length (now b) ⌝ }
     ensures { λ r. ⌜ r ≡ ones (both (bitsFrom (now (b .entry)) (8 * at) 64) (bitsFrom (now (b .entry)) (8 * other) 64)) ⌝ }
 {
     u64::count_ones(whole_word(b, at) & whole_word(b, other))

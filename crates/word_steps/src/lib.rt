@@ -1,6 +1,7 @@
 // Two strings in step, of eight bytes or of sixteen, passed over by the ones in them where those tell enough.
 ghost use mathlib.Core.Path.{_≡_};
 ghost use Prim.Native.Nat.{_+_, _*_, _≤_};
+ghost use lib.ListN.{length};
 ghost use Rattle.meaning.specs.Strings.{ones};
 ghost use Rattle.meaning.specs.Bytes.{bitsFrom};
 ghost use Rattle.parts.specs.Says.{Says};
@@ -19,8 +20,8 @@ pub fn word_in_step(
 ) -> bool
     requires { ⌜ at1 ≤ 39900 ⌝ }
     requires { ⌜ at0 ≤ 39900 ⌝ }
-    requires { do ⌜ at1 + 8 ≤ (← ⟦b.len()⟧) ⌝ }
-    requires { do ⌜ at0 + 8 ≤ (← ⟦b.len()⟧) ⌝ }
+    requires { ⌜ at1 + 8 ≤ length (now b) ⌝ }
+    requires { ⌜ at0 + 8 ≤ length (now b) ⌝ }
     requires { ⌜ ones1 ≤ 69900 ⌝ }
     requires { ⌜ ones0 ≤ 69900 ⌝ }
     requires { ⌜ more ≡ ones (bitsFrom (now b) (8 * at1) 64) ⌝ }
@@ -49,8 +50,8 @@ pub fn pair_in_step(
 ) -> bool
     requires { ⌜ at1 ≤ 39000 ⌝ }
     requires { ⌜ at0 ≤ 39000 ⌝ }
-    requires { do ⌜ at1 + 16 ≤ (← ⟦b.len()⟧) ⌝ }
-    requires { do ⌜ at0 + 16 ≤ (← ⟦b.len()⟧) ⌝ }
+    requires { ⌜ at1 + 16 ≤ length (now b) ⌝ }
+    requires { ⌜ at0 + 16 ≤ length (now b) ⌝ }
     requires { ⌜ ones1 ≤ 69500 ⌝ }
     requires { ⌜ ones0 ≤ 69500 ⌝ }
     requires { ⌜ front1 ≡ ones (bitsFrom (now b) (8 * at1) 64) ⌝ }

@@ -7,7 +7,7 @@ use words::ones_in_word;
 
 // How many bits of each of 63 words of eight bytes from byte `at` on are one. Each by itself, so that they become lanes.
 pub fn count_words(b: &[u8], at: usize, table: &mut [u32; 63])
-    requires { do ⌜ at + 504 ≤ (← ⟦b.len()⟧) ⌝ }
+    requires { ⌜ at + 504 ≤ length (now b) ⌝ }
     requires { ⌜ length (now table) ≡ 63 ⌝ }
     ensures { λ _. ⌜ length (now (table .exit)) ≡ 63 ⌝ }
     ensures { λ _. ⌜ WordCounts (now (b .entry)) at (now (table .exit)) ⌝ }

@@ -1,13 +1,14 @@
 // Eight bytes at once: the ones in them, and their bits as a number.
 ghost use mathlib.Core.Path.{_≡_};
 ghost use Prim.Native.Nat.{_+_, _*_, _≤_};
+ghost use lib.ListN.{length};
 ghost use Rattle.meaning.specs.Strings.{ones};
 ghost use Rattle.meaning.specs.Bytes.{bitsFrom, number};
 use byte::wide;
 
 // How many bits of the eight bytes from `at` on are one.
 pub fn ones_in_word(b: &[u8], at: usize) -> u32
-    requires { do ⌜ at + 8 ≤ (← ⟦b.len()⟧) ⌝ }
+    requires { ⌜ at + 8 ≤ length (now b) ⌝ }
     ensures { λ r. ⌜ r ≡ ones (bitsFrom (now (b .entry)) (8 * at) 64) ⌝ }
 {
     // little-endian, so that it can be one load
@@ -25,7 +26,7 @@ pub fn ones_in_word(b: &[u8], at: usize) -> u32
 
 // The 32 bits from byte `at` on as a number, most significant first.
 fn half_word(b: &[u8], at: usize) -> u64
-    requires { do ⌜ at + 4 ≤ (← ⟦b.len()⟧) ⌝ }
+    requires { ⌜ at + 4 ≤ length (now b) ⌝ }
     ensures { λ r. ⌜ r ≡ number 32 (bitsFrom (now (b .entry)) (8 * at) 32) ⌝ }
 {
     wide(b[at]) * 16777216 + wide(b[at + 1]) * 65536 + wide(b[at + 2]) * 256 + wide(b[at + 3])
@@ -33,7 +34,7 @@ fn half_word(b: &[u8], at: usize) -> u64
 
 // The 64 bits from byte `at` on as a number, most significant first: sums, which become one load.
 pub fn whole_word(b: &[u8], at: usize) -> u64
-    requires { do ⌜ at + 8 ≤ (← ⟦b.len()⟧) ⌝ }
+    requires { ⌜ at + 8 ≤ length (now b) ⌝ }
     ensures { λ r. ⌜ r ≡ number 64 (bitsFrom (now (b .entry)) (8 * at) 64) ⌝ }
 {
     half_word(b, at) * 4294967296 + half_word(b, at + 4)

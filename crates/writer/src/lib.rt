@@ -10,7 +10,7 @@ ghost use Rattle.writer.specs.Writing.{NodeIn, ToWrite, Wrote};
 // Bit j of byte `at`, most significant first.
 fn bit_in(b: &[u8], at: usize, j: usize) -> u32
     requires { ⌜ j < 8 ⌝ }
-    requires { do ⌜ at < (← ⟦b.len()⟧) ⌝ }
+    requires { ⌜ at < length (now b) ⌝ }
     ensures { λ r. ⌜ r ≡ value (bitAt (now (b .entry)) (8 * at + j)) ⌝ }
 {
     ((b[at] >> (7 - j)) & 1) as u32

@@ -1,6 +1,7 @@
 // The lowest block whose sums are wrong.
 ghost use mathlib.Core.Path.{_≡_};
 ghost use Prim.Native.Nat.{_+_, _*_, _≤_};
+ghost use lib.ListN.{length};
 ghost use Rattle.meaning.specs.Blocks.{wrongBlock};
 ghost use Rattle.sealing.specs.Sealed.{rightAt};
 use image_words::word;
@@ -8,7 +9,7 @@ use sums::block_sums;
 
 // Are the sums that block `i` holds those of its payload?
 fn sums_right(b: &[u8], i: usize) -> bool
-    requires { do ⌜ 512 * i + 512 ≤ (← ⟦b.len()⟧) ⌝ }
+    requires { ⌜ 512 * i + 512 ≤ length (now b) ⌝ }
     requires { ⌜ i ≤ 52 ⌝ }
     ensures { λ r. ⌜ r ≡ rightAt (now (b .entry)) i ⌝ }
 {
@@ -21,7 +22,7 @@ fn sums_right(b: &[u8], i: usize) -> bool
 
 // The lowest block whose s or t is wrong, or `blocks` if there is none.
 pub fn wrong_block(b: &[u8], blocks: usize) -> usize
-    requires { do ⌜ (← ⟦b.len()⟧) ≡ 512 * blocks ⌝ }
+    requires { ⌜ length (now b) ≡ 512 * blocks ⌝ }
     requires { ⌜ blocks ≤ 53 ⌝ }
     ensures { λ r. ⌜ r ≡ wrongBlock (now (b .entry)) ⌝ }
 {
