@@ -1,8 +1,12 @@
 // Blocks of an image: which blocks hold what.
 ghost use mathlib.Core.Path.{_≡_};
-ghost use Prim.Native.Nat.{_≤_};
+ghost use Prim.Native.Nat.{_*_, _≤_};
+ghost use lib.ListN.{length};
 ghost use Rattle.meaning.specs.Image.{stringBlocks};
-ghost use Rattle.theory.specs.Stages.{blocksNeeded, blocksOfSamples, samplesFrom, zerosFrom};
+ghost use Rattle.theory.specs.Stages.{Header, blocksNeeded, blocksOfSamples, samplesFrom, zerosFrom};
+ghost use Rattle.checked.specs.Checked.{imageIn};
+use checked::Image;
+use image_words::word;
 
 // How many blocks a string of n bits takes.
 pub fn string_blocks(n: usize) -> usize
@@ -43,4 +47,27 @@ pub fn blocks_needed(n: usize, m: usize) -> usize
     ensures { λ r. ⌜ r ≡ blocksNeeded n m ⌝ }
 {
     samples_from(n) + 2 * sample_blocks(m)
+}
+
+// n, m and where the parts of an image begin, from a header that is right.
+pub fn image_in(b: &[u8], blocks: usize) -> Image
+    requires { ⌜ length (now b) ≡ 512 * blocks ⌝ }
+    requires { ⌜ 5 ≤ blocks ⌝ }
+    requires { ⌜ blocks ≤ 53 ⌝ }
+    requires { ⌜ Header (now b) ⌝ }
+    ensures { λ r. ⌜ r ≡ imageIn (now (b .entry)) ⌝ }
+{
+    let nodes = word(b, 4);
+    let marks = word(b, 8);
+    let zeros = zeros_from(nodes as usize);
+    let samples1 = samples_from(nodes as usize);
+    let samples0 = samples1 + sample_blocks(marks as usize);
+    Image {
+        nodes,
+        marks,
+        blocks: blocks as u32,
+        zeros: zeros as u32,
+        samples1: samples1 as u32,
+        samples0: samples0 as u32,
+    }
 }

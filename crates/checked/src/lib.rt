@@ -1,9 +1,9 @@
 // What the check of an image finds, and the numbers that a caller gets for it; the check itself stands in `image`.
 ghost use mathlib.Core.Path.{_≡_};
 ghost use Rattle.checked.specs.Checked.{answered};
+use answers::done;
+use answers::refuse;
 use meaning::Answer;
-use meaning::done;
-use meaning::refuse;
 
 // What a checked image is: n and m, its blocks, and the blocks at which R0 and the samples of R1 and of R0 begin.
 pub struct Image {

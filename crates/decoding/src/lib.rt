@@ -2,6 +2,8 @@
 ghost use mathlib.Core.Path.{_≡_};
 ghost use Rattle.meaning.specs.Answers.{cameTo};
 ghost use Rattle.meaning.specs.Calls.{parentsOfString};
+use answers::done;
+use answers::refuse;
 use inside::TreeEnd;
 use meaning::Answer;
 use meaning::LEFTOVER_SET;
@@ -9,8 +11,6 @@ use meaning::MOST_BITS;
 use meaning::NO_ROOM;
 use meaning::NOT_STRING;
 use meaning::WRONG_SIZE;
-use meaning::done;
-use meaning::refuse;
 use reading::leftover_set;
 use reading::write_parents;
 use scan::tree_end;

@@ -2,6 +2,8 @@
 ghost use mathlib.Core.Path.{_≡_};
 ghost use Rattle.meaning.specs.Answers.{cameTo};
 ghost use Rattle.meaning.specs.Calls.{stringOfParents};
+use answers::done;
+use answers::refuse;
 use entries::bad_entry;
 use entries::write_string;
 use meaning::Answer;
@@ -9,8 +11,6 @@ use meaning::MOST_NODES;
 use meaning::NO_ROOM;
 use meaning::NOT_PARENTS;
 use meaning::WRONG_SIZE;
-use meaning::done;
-use meaning::refuse;
 
 // The string of a parent list.
 pub fn string_of_parents(parents: &[u32], bytes: &mut [u8]) -> Answer

@@ -1,50 +1,20 @@
 // The whole check of an image.
 ghost use mathlib.Core.Path.{_≡_};
-ghost use Prim.Native.Nat.{_*_, _≤_};
-ghost use lib.ListN.{length};
 ghost use Rattle.meaning.specs.Answers.{cameTo};
 ghost use Rattle.meaning.specs.Calls.{checkImage};
-ghost use Rattle.theory.specs.Stages.{Header};
-ghost use Rattle.checked.specs.Checked.{checked, imageIn};
-use blocks::sample_blocks;
-use blocks::samples_from;
-use blocks::zeros_from;
+ghost use Rattle.checked.specs.Checked.{checked};
+use answers::done;
+use blocks::image_in;
 use checked::Checked;
-use checked::Image;
 use checked::refusal_of;
-use image_words::word;
 use meaning::Answer;
 use meaning::FEWEST_BLOCKS;
 use meaning::MOST_BLOCKS;
 use meaning::NOT_IMAGE;
 use meaning::WRONG_SIZE;
 use meaning::WRONG_SUMS;
-use meaning::done;
 use stages::stages_pass;
 use wrong_blocks::wrong_block;
-
-// n, m and where the parts of an image begin, from a header that is right.
-fn image_in(b: &[u8], blocks: usize) -> Image
-    requires { ⌜ length (now b) ≡ 512 * blocks ⌝ }
-    requires { ⌜ 5 ≤ blocks ⌝ }
-    requires { ⌜ blocks ≤ 53 ⌝ }
-    requires { ⌜ Header (now b) ⌝ }
-    ensures { λ r. ⌜ r ≡ imageIn (now (b .entry)) ⌝ }
-{
-    let nodes = word(b, 4);
-    let marks = word(b, 8);
-    let zeros = zeros_from(nodes as usize);
-    let samples1 = samples_from(nodes as usize);
-    let samples0 = samples1 + sample_blocks(marks as usize);
-    Image {
-        nodes,
-        marks,
-        blocks: blocks as u32,
-        zeros: zeros as u32,
-        samples1: samples1 as u32,
-        samples0: samples0 as u32,
-    }
-}
 
 // The whole check, cheapest first: size, blocks, then the header, the strings and their samples.
 pub fn check(b: &[u8]) -> Checked

@@ -2,6 +2,8 @@
 ghost use mathlib.Core.Path.{_≡_};
 ghost use Rattle.meaning.specs.Answers.{cameTo};
 ghost use Rattle.meaning.specs.Calls.{joinPack};
+use answers::done;
+use answers::refuse;
 use entries::bad_entry;
 use entries::write_string;
 use holding::Held;
@@ -10,8 +12,6 @@ use meaning::Answer;
 use meaning::NO_ROOM;
 use meaning::NOT_PARENTS;
 use meaning::WRONG_SIZE;
-use meaning::done;
-use meaning::refuse;
 use sizes::wrong_to_join;
 
 // Adds a tree to the pack that the first bits of a lent buffer hold.

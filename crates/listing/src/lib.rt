@@ -2,6 +2,8 @@
 ghost use mathlib.Core.Path.{_≡_};
 ghost use Rattle.meaning.specs.Answers.{cameTo};
 ghost use Rattle.meaning.specs.Calls.{listImage};
+use answers::done;
+use answers::refuse;
 use checked::Checked;
 use checked::refusal_of;
 use image::check;
@@ -12,8 +14,6 @@ use meaning::Answer;
 use meaning::NO_ROOM;
 use meaning::NOT_ALLOWED;
 use meaning::TOO_DEEP;
-use meaning::done;
-use meaning::refuse;
 
 // The listing of a node: all that may refuse it is found before anything is written.
 pub fn list(b: &[u8], node: u32, out: &mut [u32]) -> Answer

@@ -1,6 +1,4 @@
 // What every call answers, the codes and the limits of document 01.
-ghost use mathlib.Core.Path.{_≡_};
-ghost use Rattle.meaning.specs.Answers.{refusedWith, counts};
 
 // A code, the place that goes with it, and two counts. On refusal the counts are 0; on code 0 the place is 0.
 #[repr(C)]
@@ -45,25 +43,3 @@ pub const FEWEST_BLOCKS: usize = 5;
 pub const MOST_BLOCKS: usize = 53;
 
 pub const MOST_DEPTH: usize = 64;
-
-pub fn refuse(code: u32, place: u32) -> Answer
-    ensures { λ r. ⌜ r ≡ refusedWith code place ⌝ }
-{
-    Answer {
-        code: code,
-        place: place,
-        first: 0,
-        second: 0,
-    }
-}
-
-pub fn done(first: u32, second: u32) -> Answer
-    ensures { λ r. ⌜ r ≡ counts first second ⌝ }
-{
-    Answer {
-        code: 0,
-        place: 0,
-        first: first,
-        second: second,
-    }
-}

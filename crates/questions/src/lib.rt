@@ -4,6 +4,8 @@ ghost use Rattle.meaning.specs.Answers.{cameTo};
 ghost use Rattle.meaning.specs.Calls.{askImage};
 use allowing::first_bad;
 use answering::write_answers;
+use answers::done;
+use answers::refuse;
 use checked::Checked;
 use checked::refusal_of;
 use image::check;
@@ -12,8 +14,6 @@ use meaning::MOST_QUESTIONS;
 use meaning::NO_ROOM;
 use meaning::NOT_ALLOWED;
 use meaning::WRONG_SIZE;
-use meaning::done;
-use meaning::refuse;
 
 // Asks an image: sizes, the whole check, what is asked, room, and then the answers.
 pub fn ask(b: &[u8], questions: &[i32], answers: &mut [u32]) -> Answer

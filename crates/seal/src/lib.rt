@@ -3,6 +3,8 @@ ghost use mathlib.Core.Path.{_≡_};
 ghost use Prim.Native.Nat.{_*_};
 ghost use Rattle.meaning.specs.Answers.{cameTo};
 ghost use Rattle.meaning.specs.Calls.{imageOfParents};
+use answers::done;
+use answers::refuse;
 use entries::bad_entry;
 use filling::write_image;
 use meaning::Answer;
@@ -10,8 +12,6 @@ use meaning::MOST_NODES;
 use meaning::NO_ROOM;
 use meaning::NOT_PARENTS;
 use meaning::WRONG_SIZE;
-use meaning::done;
-use meaning::refuse;
 
 // The image of a parent list.
 pub fn image_of_parents(parents: &[u32], image: &mut [u8]) -> Answer

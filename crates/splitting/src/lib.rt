@@ -2,14 +2,14 @@
 ghost use mathlib.Core.Path.{_≡_};
 ghost use Rattle.meaning.specs.Answers.{cameTo};
 ghost use Rattle.meaning.specs.Calls.{splitPack};
+use answers::done;
+use answers::refuse;
 use holding::Held;
 use holding::trees_held;
 use meaning::Answer;
 use meaning::MOST_TREES;
 use meaning::NO_ROOM;
 use meaning::WRONG_SIZE;
-use meaning::done;
-use meaning::refuse;
 use noting::hand_over;
 use sizes::wrong_to_split;
 

@@ -2,13 +2,13 @@
 ghost use mathlib.Core.Path.{_≡_};
 ghost use Rattle.meaning.specs.Answers.{cameTo};
 ghost use Rattle.meaning.specs.Calls.{parentsOfImage};
+use answers::done;
+use answers::refuse;
 use checked::Checked;
 use checked::refusal_of;
 use image::check;
 use meaning::Answer;
 use meaning::NO_ROOM;
-use meaning::done;
-use meaning::refuse;
 use spread::write_parents;
 
 // The parent list of a sound image.

@@ -13,7 +13,7 @@ use Rattle.theory.specs.Rank.{withChildren}
 use Rattle.theory.specs.Walks.{root, nodeAt, Number, everything, AllBelow, FirstAt}
 use Rattle.text.specs.Text.{ascii}
 use Rattle.lines.specs.Lines.{heading, nodeLine, refusal}
-use Rattle.outline.specs.Outline.{outlineOf}
+use Rattle.outlining.specs.Outline.{outlineOf}
 
 -- ---- Of a tree's image.
 

@@ -1,4 +1,4 @@
--- `outline::outline` meets its contract.
+-- `outlining::outline` meets its contract.
 use borrow.Author.Needs.{needs}
 use mathlib.Core.Path.{_≡_, sym, ap, _∙_}
 use Prim.Native.Nat.{_*_, _≤_}
@@ -11,9 +11,9 @@ use Rattle.levels.proofs.Numbers.{parents-count}
 use Rattle.lines.specs.Lines.{heading, nodeLines, refusal}
 use Rattle.text.proofs.Putting.{both-put, put-length}
 use Rattle.lines.proofs.Sizes.{heading-most, refusal-most, lines-most}
-use Rattle.outline.proofs.Outlining.{Listed, outline-refused, outline-many, outline-listed, put-outline}
-use Rattle.outline.proofs.outline.Statement.{statement}
-use Rattle.outline.proofs.outline.Tie as tie
+use Rattle.outlining.proofs.Outlining.{Listed, outline-refused, outline-many, outline-listed, put-outline}
+use Rattle.outlining.proofs.outline.Statement.{statement}
+use Rattle.outlining.proofs.outline.Tie as tie
 
 -- the image that the check found
 sound : (c : tie.After-known-told) → checked (c .before .before .before .before .before .before .before .args .b .now) ≡ Sound (c .before .found .given .0 .0)

@@ -30,12 +30,12 @@ use Rattle.checked.proofs.Promises.{tree-checked}
 use Rattle.listing.proofs.Promises.{listed-of-tree, lists-length, too-deep-is-named}
 use Rattle.text.specs.Text.{digits, decimal}
 use Rattle.lines.specs.Lines.{heading, nodeLine, nodeLines, refusal}
-use Rattle.outline.specs.Outline.{printed, outlineOf}
-use Rattle.outline.specs.Promises as P
-use Rattle.outline.specs.Promises.{headingOf, LinesOf}
+use Rattle.outlining.specs.Outline.{printed, outlineOf}
+use Rattle.outlining.specs.Promises as P
+use Rattle.outlining.specs.Promises.{headingOf, LinesOf}
 use Rattle.text.proofs.Putting.{all-written}
-use Rattle.outline.proofs.Root.{every-node}
-use Rattle.outline.proofs.Outlining.{not-found, many, not-listed, all-listed, by-answer, outline-refused}
+use Rattle.outlining.proofs.Root.{every-node}
+use Rattle.outlining.proofs.Outlining.{not-found, many, not-listed, all-listed, by-answer, outline-refused}
 
 -- ---- of other bytes
 

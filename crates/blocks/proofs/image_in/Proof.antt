@@ -1,12 +1,12 @@
--- `image::image_in` meets its contract.
+-- `blocks::image_in` meets its contract.
 use mathlib.Core.Path.{_≡_}
 use Prim.Native.Nat.{_*_}
 use native.Mathlib.Omega.{arith}
 use lib.ListN.{length}
 use Rattle.checked.proofs.Finding.{image-read}
 use borrow.Author.Needs.{needs}
-use Rattle.image.proofs.image_in.Statement.{statement}
-use Rattle.image.proofs.image_in.Tie as tie
+use Rattle.blocks.proofs.image_in.Statement.{statement}
+use Rattle.blocks.proofs.image_in.Tie as tie
 
 word-requires : tie.Need-word-requires
 word-requires c κs = search needs
@@ -48,7 +48,11 @@ cast-t13 : tie.Need-cast-t13
 cast-t13 c = search needs
 
 returns : tie.Need-returns
-returns c = let whole : length (c .before .before .before .before .before .before .args .b .now) ≡ 512 * (c .before .before .before .before .before .before .args .blocks) = c .before .before .before .before .before .before .pre .0 in image-read (c .before .before .before .before .before .before .args .b .now) _ _ _ _ _ _ (c .before .before .before .before .word .ensures) (c .before .before .before .word2 .ensures) (omega arith) (c .before .before .zeros-from .ensures) (c .before .samples-from .ensures) (c .sample-blocks .ensures)
+returns c =
+    let s = c .before .before .before .before .before .before in
+    let bytes = s .args .b .now in
+    let whole : length bytes ≡ 512 * (s .args .blocks) = s .pre .0 in
+    image-read bytes _ _ _ _ _ _ (c .before .before .before .before .word .ensures) (c .before .before .before .word2 .ensures) (omega arith) (c .before .before .zeros-from .ensures) (c .before .samples-from .ensures) (c .sample-blocks .ensures)
 
 pub image-in-spec : {M : Type 1} → statement M
 image-in-spec =

@@ -26,10 +26,10 @@ use Rattle.levels.proofs.Levels.{listing-less}
 use Rattle.levels.proofs.Numbers.{low-mono, low-kids}
 use Rattle.listing.proofs.Calling.{list-deep, list-given}
 use Rattle.lines.specs.Lines.{heading, nodeLines, refusal}
-use Rattle.outline.specs.Outline.{printed, outlineOf}
+use Rattle.outlining.specs.Outline.{printed, outlineOf}
 use Rattle.text.specs.Text.{Puts}
 use Rattle.text.proofs.Putting.{put-first, all-written}
-use Rattle.outline.proofs.Root.{Whole, root-whole}
+use Rattle.outlining.proofs.Root.{Whole, root-whole}
 
 -- ---- a refusal has a code
 
