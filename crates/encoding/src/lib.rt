@@ -5,12 +5,12 @@ ghost use Rattle.meaning.specs.Calls.{stringOfParents};
 use answers::done;
 use answers::refuse;
 use entries::bad_entry;
-use entries::write_string;
 use meaning::Answer;
 use meaning::MOST_NODES;
 use meaning::NO_ROOM;
 use meaning::NOT_PARENTS;
 use meaning::WRONG_SIZE;
+use string_writer::write_string;
 
 // The string of a parent list.
 pub fn string_of_parents(parents: &[u32], bytes: &mut [u8]) -> Answer

@@ -17,7 +17,7 @@ use Rattle.theory.proofs.Payloads.{ones-le}
 use Rattle.theory.proofs.Parents.{are-parents}
 use Rattle.theory.proofs.Forms.{length-parents, length-R1, length-R0, string-parents, marks-same}
 use Rattle.theory.proofs.Digits.{number-lt}
-use Rattle.entries.proofs.Marking.{Rising, parents-rising}
+use Rattle.entries.proofs.Rising.{Rising, parents-rising}
 use Rattle.tally.proofs.Runs.{ones-of-bit}
 use Rattle.ends.specs.Listed.{nextOf, unlike, markOf, endsOf}
 use Rattle.ends.proofs.Lists.{next-rising, R1-listed}

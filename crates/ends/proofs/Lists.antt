@@ -15,7 +15,7 @@ use Rattle.theory.proofs.Forms.{position-split}
 use Rattle.theory.proofs.Navigate.{position-zero}
 use Rattle.halves.proofs.Placing.{position-front}
 use Rattle.theory.proofs.Runs.{ends, ends1, ends0, R1-bits, R0-bits}
-use Rattle.entries.proofs.Marking.{Rising, parents-rising}
+use Rattle.entries.proofs.Rising.{Rising, parents-rising}
 use Rattle.ends.specs.Listed.{nextOf, markOf, gapOf, endsOf, gapsOf}
 
 pub never : {X : Type 0} → I ≡ O → X

@@ -6,12 +6,7 @@ ghost use Rattle.meaning.specs.Bytes.{number, value};
 ghost use Rattle.meaning.specs.Parents.{badEntry};
 ghost use Rattle.meaning.specs.Strings.{O, R1, stringOf};
 ghost use Rattle.ends.specs.Listed.{nextOf, unlike, marksIn};
-
-fn wide(x: u32) -> usize
-    ensures { λ r. ⌜ r ≡ x ⌝ }
-{
-    x as usize
-}
+use entries::wide;
 
 fn count(x: u8) -> usize
     ensures { λ r. ⌜ r ≡ x ⌝ }

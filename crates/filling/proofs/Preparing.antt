@@ -11,7 +11,7 @@ use Rattle.meaning.specs.Image.{stringBlocks, samples, sampleBlocks, stringIn}
 use Rattle.theory.specs.Layout.{wordAt, startR0, startS1, startS0, total}
 use Rattle.theory.specs.Stages.{blocksOfSamples, zerosFrom, samplesFrom}
 use Rattle.theory.proofs.Payloads.{ones-le, length-samples}
-use Rattle.entries.proofs.Marking.{good-parents}
+use Rattle.entries.proofs.Rising.{good-parents}
 use Rattle.ends.specs.Listed.{marksIn}
 use Rattle.marks.specs.Passes.{Part, blocksFor, Ready, Ran}
 use Rattle.payloads.specs.Filled.{Counts, Filled}

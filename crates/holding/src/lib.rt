@@ -66,3 +66,15 @@ pub fn trees_held(b: &[u8], n: usize, trees: usize, firsts: &mut [u32], counts: 
         }
     }
 }
+
+// The same, where nobody asks where the trees begin and how large they are.
+pub fn holds_trees(b: &[u8], n: usize, trees: usize) -> Held
+    requires { ⌜ n ≤ 8 * length (now b) ⌝ }
+    requires { ⌜ n ≤ 131071 ⌝ }
+    requires { ⌜ trees ≤ 256 ⌝ }
+    ensures { λ r. ⌜ r ≡ firstOf (packRows (now (b .entry)) n trees) ⌝ }
+{
+    let mut no_firsts = [0u32; 0];
+    let mut no_counts = [0u32; 0];
+    trees_held(b, n, trees, &mut no_firsts, &mut no_counts)
+}

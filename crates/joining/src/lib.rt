@@ -5,14 +5,14 @@ ghost use Rattle.meaning.specs.Calls.{joinPack};
 use answers::done;
 use answers::refuse;
 use entries::bad_entry;
-use entries::write_string;
 use holding::Held;
-use holding::trees_held;
+use holding::holds_trees;
 use meaning::Answer;
 use meaning::NO_ROOM;
 use meaning::NOT_PARENTS;
 use meaning::WRONG_SIZE;
 use sizes::wrong_to_join;
+use string_writer::write_string;
 
 // Adds a tree to the pack that the first bits of a lent buffer hold.
 pub fn join(pack: &mut [u8], bits: usize, trees: usize, parents: &[u32]) -> Answer
@@ -21,9 +21,7 @@ pub fn join(pack: &mut [u8], bits: usize, trees: usize, parents: &[u32]) -> Answ
     if wrong_to_join(pack.len(), bits, trees, parents.len()) {
         return refuse(WRONG_SIZE, 0);
     }
-    let mut no_firsts = [0u32; 0];
-    let mut no_counts = [0u32; 0];
-    let held = trees_held(pack, bits, trees, &mut no_firsts, &mut no_counts);
+    let held = holds_trees(pack, bits, trees);
     match held {
         Held::Refused { code, place } => refuse(code, place),
         Held::Trees => {

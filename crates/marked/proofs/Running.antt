@@ -10,7 +10,7 @@ use Rattle.meaning.specs.Image.{stringBlocks}
 use Rattle.theory.specs.Layout.{bitPlace, samplePlace}
 use Rattle.theory.specs.Stages.{blocksOfSamples}
 use Rattle.theory.proofs.Payloads.{ones-le, length-samples, sample-at}
-use Rattle.entries.proofs.Marking.{good-parents}
+use Rattle.entries.proofs.Rising.{good-parents}
 use Rattle.ends.specs.Listed.{marksIn}
 use Rattle.ends.proofs.Entries.{length-ends}
 use Rattle.marks.specs.Passes.{Part, Blank, Known, Ended, Gapped, Followed, Ready, Ran}

@@ -7,8 +7,8 @@ ghost use Rattle.meaning.specs.Parents.{badEntry};
 ghost use Rattle.theory.specs.Stages.{blocksOfSamples};
 ghost use Rattle.ends.specs.Listed.{marksIn};
 ghost use Rattle.marks.specs.Passes.{bytePlace, Blank, Known, Gapped, Followed, Ready, Ran};
+use entries::wide;
 use marks::mark_ends;
-use marks::wide;
 
 // Where byte number c of a string stands whose blocks begin at `from`.
 fn byte_place(from: usize, c: usize) -> usize

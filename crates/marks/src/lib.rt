@@ -9,12 +9,7 @@ ghost use Rattle.theory.specs.Stages.{blocksOfSamples};
 ghost use Rattle.byte.specs.Byte.{byteBits};
 ghost use Rattle.ends.specs.Listed.{marksIn};
 ghost use Rattle.marks.specs.Passes.{byteMarked, Blank, Ended};
-
-pub fn wide(x: u32) -> usize
-    ensures { λ r. ⌜ r ≡ x ⌝ }
-{
-    x as usize
-}
+use entries::wide;
 
 // Byte number b, from 0, of R1, which k ones come before. Of each 64 ones the first is a sample, in the blocks from `first` on; a byte has too few for two. Answers the ones up to its end.
 fn mark_byte(image: &mut [u8], first: usize, b: usize, x: u8, k: usize) -> usize

@@ -1,5 +1,5 @@
 -- Ones left of a position and positions of ones, in any list of bits.
-use mathlib.Core.Path.{_≡_, refl, ap, _∙_}
+use mathlib.Core.Path.{_≡_, refl, sym, ap, _∙_}
 use mathlib.Core.List.{List, [], _∷_}
 use Prim.Native.Nat.{ℕ, zero, suc, _+_, _-_, _≤_, _<_}
 use native.Mathlib.Omega.{arith}
@@ -11,7 +11,8 @@ use Rattle.theory.specs.Rank.{onesLeft, position}
 use Rattle.theory.specs.ByStrings.{bitOf}
 use Rattle.theory.specs.Stages.{Ended}
 use Rattle.theory.proofs.InStep.{runs-ended, one-missing}
-use Rattle.theory.proofs.Navigate.{position-zero}
+use Rattle.theory.proofs.Navigate.{position-zero, place-of-one}
+use Rattle.bit.proofs.Values.{is-I}
 
 -- ---- by positions from 0
 
@@ -103,17 +104,10 @@ unfolding onesLeft
 right-from r x h = omega (arith, next-right r (x - 1) h)
 
 -- a one stands where the ones left of it say
-one-there : (r : List Bit) (i : ℕ) → i < length r → value (getD r i I) ≡ 1 → position r (suc (ones (take i r))) ≡ suc i
-unfolding value
-one-there [] i h e = absurd (omega arith)
-one-there (O ∷ r) zero h e = absurd (omega arith)
-one-there (I ∷ r) zero h e = ap suc (position-zero r)
-one-there (O ∷ r) (suc i) h e = ap suc (one-there r i (omega arith) e)
-one-there (I ∷ r) (suc i) h e = ap suc (one-there r i (omega arith) e)
-
 pub position-of-one : (r : List Bit) (x : ℕ) → 1 ≤ x → x ≤ length r → value (bitOf r x) ≡ 1 → position r (suc (onesLeft r x)) ≡ x
 unfolding onesLeft
-position-of-one r x g h e = omega (arith, one-there r (x - 1) (omega arith) e)
+position-of-one r x g h e =
+    omega (arith, place-of-one r (x - 1) (omega arith) (sym (any-else r (x - 1) (omega arith)) ∙ is-I (bitOf r x) 1 (sym e) (λ z. omega arith)))
 
 -- a zero is not the last bit
 pub zero-not-last : (m : ℕ) (r : List Bit) (x : ℕ) → Ended m r → 1 ≤ x → x ≤ length r → value (bitOf r x) ≡ 0 → x < length r

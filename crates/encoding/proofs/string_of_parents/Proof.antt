@@ -4,7 +4,7 @@ use native.Mathlib.Omega.{arith}
 use Rattle.meaning.specs.Answers.{cameTo}
 use Rattle.theory.proofs.Lowest.{bad-within}
 use Rattle.appending.proofs.Appending.{appended-none}
-use Rattle.entries.proofs.Marking.{good-parents}
+use Rattle.entries.proofs.Rising.{good-parents}
 use Rattle.encoding.proofs.Answers.{string-none, string-many, string-entry, string-room, string-made}
 use borrow.Author.Needs.{needs}
 use Rattle.encoding.proofs.string_of_parents.Statement.{statement}

@@ -4,7 +4,7 @@ use lib.ListN.{length, take}
 use mathlib.Core.Path.{_≡_, refl, _∙_}
 use Rattle.meaning.specs.Strings.{ones, R1, stringOf}
 use native.Mathlib.Omega.{arith}
-use Rattle.entries.proofs.Marking.{good-parents}
+use Rattle.entries.proofs.Rising.{good-parents}
 use Rattle.ends.proofs.Entries.{counted-few, counted-more, counted-all}
 use borrow.Author.Needs.{needs}
 use Rattle.ends.proofs.count_marks.Statement.{statement}

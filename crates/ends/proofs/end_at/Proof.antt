@@ -2,7 +2,7 @@
 use Rattle.ends.proofs.Entries.{end-inner, end-last, end-after}
 use native.Mathlib.Omega.{arith}
 use mathlib.Core.Path.{sym, _∙_}
-use Rattle.entries.proofs.Marking.{good-parents}
+use Rattle.entries.proofs.Rising.{good-parents}
 use borrow.Author.Needs.{needs}
 use Rattle.ends.proofs.end_at.Statement.{statement}
 use Rattle.ends.proofs.end_at.Tie as tie

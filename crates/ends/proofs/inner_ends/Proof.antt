@@ -5,7 +5,7 @@ use mathlib.Core.Path.{_≡_, refl, sym, _∙_, ap}
 use Rattle.meaning.specs.Strings.{R1, stringOf}
 use Rattle.meaning.specs.Bytes.{number}
 use native.Mathlib.Omega.{arith}
-use Rattle.entries.proofs.Marking.{good-parents}
+use Rattle.entries.proofs.Rising.{good-parents}
 use Rattle.ends.proofs.Entries.{end-inner, shifted, shifted-small}
 use borrow.Author.Needs.{needs}
 use Rattle.ends.proofs.inner_ends.Statement.{statement}

@@ -1,6 +1,6 @@
 -- `filling::fill` meets its contract.
 use Rattle.filling.proofs.Preparing.{few-marks, ready, all-prepared}
-use Rattle.entries.proofs.Marking.{good-parents}
+use Rattle.entries.proofs.Rising.{good-parents}
 use native.Mathlib.Omega.{arith}
 use borrow.Author.Needs.{needs}
 use Rattle.filling.proofs.fill.Statement.{statement}

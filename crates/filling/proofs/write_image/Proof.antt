@@ -1,7 +1,7 @@
 -- `filling::write_image` meets its contract.
 use Rattle.filling.proofs.Preparing.{few-marks}
 use Rattle.filling.proofs.Filled.{prepared-sealed}
-use Rattle.entries.proofs.Marking.{good-parents}
+use Rattle.entries.proofs.Rising.{good-parents}
 use native.Mathlib.Omega.{arith}
 use mathlib.Core.Path.{_∙_}
 use borrow.Author.Needs.{needs}

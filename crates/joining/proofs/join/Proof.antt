@@ -4,7 +4,7 @@ use native.Mathlib.Omega.{arith}
 use borrow.Author.Needs.{needs}
 use lib.ListN.{length}
 use Rattle.theory.proofs.Lowest.{bad-within}
-use Rattle.entries.proofs.Marking.{good-parents}
+use Rattle.entries.proofs.Rising.{good-parents}
 use Rattle.pack_scan.proofs.Telling.{answered}
 use Rattle.sizes.specs.ToJoin.{Sized}
 use Rattle.sizes.proofs.ToJoin.{told-right}
@@ -27,14 +27,8 @@ refuse-requires c κs = search needs
 returns : tie.Need-returns
 returns c = answered (c .refuse .ensures) (join-wrong _ _ _ _ (c .before .before .wrong-to-join .ensures) (c .before .if1 .taken))
 
-slice-aggregate-trees-held : tie.Need-slice-aggregate-trees-held
-slice-aggregate-trees-held c = search needs
-
-slice-aggregate-trees-held-2 : tie.Need-slice-aggregate-trees-held-2
-slice-aggregate-trees-held-2 c = search needs
-
-trees-held-requires : tie.Need-trees-held-requires
-trees-held-requires c κs = let z = sized (c .before .before .before) in (omega (arith, z .bytes), (omega (arith, z .fits), omega (arith, z .room)))
+holds-trees-requires : tie.Need-holds-trees-requires
+holds-trees-requires c κs = let z = sized (c .before) in (omega (arith, z .bytes), (omega (arith, z .fits), omega (arith, z .room)))
 
 enum-known-held : tie.Need-enum-known-held
 enum-known-held c = search needs
@@ -46,11 +40,11 @@ enum-told : tie.Need-enum-told
 enum-told c = search needs
 
 bad-entry-requires : tie.Need-bad-entry-requires
-bad-entry-requires c κs = let z = sized (c .before .before .before .before .before .before .before .before) in (z .some, z .most)
+bad-entry-requires c κs = let z = sized (c .before .before .before .before) in (z .some, z .most)
 
 cast-refuse : tie.Need-cast-refuse
 cast-refuse c =
-    let s = c .before .before .before .before .before .before .before .before .before .before in
+    let s = c .before .before .before .before .before .before in
     omega (arith, c .before .bad-entry .ensures, sized s .most, bad-within (s .before .before .before .before .args .parents .now) (sized s .some))
 
 refuse-requires-3 : tie.Need-refuse-requires-3
@@ -62,7 +56,7 @@ same-length c = search needs
 returns-2 : tie.Need-returns-2
 returns-2 c =
     let t = c .before .before .before in
-    answered (c .refuse3 .ensures) (join-entry _ _ _ _ (sized (t .before .before .before .before .before .before .before .before)) (sym (t .enum-told .given .1) ∙ t .before .before .before .before .trees-held .ensures .0) (c .before .before .bad-entry .ensures) (c .before .if2 .taken))
+    answered (c .refuse3 .ensures) (join-entry _ _ _ _ (sized (t .before .before .before .before)) (sym (t .enum-told .given .1) ∙ t .before .before .holds-trees .ensures) (c .before .before .bad-entry .ensures) (c .before .if2 .taken))
 
 mul-longer : tie.Need-mul-longer
 mul-longer c = search needs
@@ -71,10 +65,10 @@ add-longer : tie.Need-add-longer
 add-longer c = search needs
 
 add-longer-2 : tie.Need-add-longer-2
-add-longer-2 c = omega (arith, sized (c .before .before .before .before .before .before .before .before .before .before) .fits)
+add-longer-2 c = omega (arith, sized (c .before .before .before .before .before .before) .fits)
 
 add-if3 : tie.Need-add-if3
-add-if3 c = omega (arith, sized (c .before .before .before .before .before .before .before .before .before .before) .fits)
+add-if3 c = omega (arith, sized (c .before .before .before .before .before .before) .fits)
 
 refuse-requires-4 : tie.Need-refuse-requires-4
 refuse-requires-4 c κs = search needs
@@ -85,23 +79,23 @@ same-length-2 c = search needs
 returns-3 : tie.Need-returns-3
 returns-3 c =
     let t = c .before .before .before .before in
-    let z = sized (t .before .before .before .before .before .before .before .before) in
+    let z = sized (t .before .before .before .before) in
     let g = sym (c .before .before .before .bad-entry .ensures) ∙ c .before .before .if2 .left in
-    answered (c .refuse4 .ensures) (join-room _ _ _ _ z (sym (t .enum-told .given .1) ∙ t .before .before .before .before .trees-held .ensures .0) g (good-parents _ (z .some) g) (c .before .if3 .taken))
+    answered (c .refuse4 .ensures) (join-room _ _ _ _ z (sym (t .enum-told .given .1) ∙ t .before .before .holds-trees .ensures) g (good-parents _ (z .some) g) (c .before .if3 .taken))
 
 write-string-requires : tie.Need-write-string-requires
 write-string-requires c κs =
-    let z = sized (c .before .before .before .before .before .before .before .before .before .before .before .before) in
+    let z = sized (c .before .before .before .before .before .before .before .before) in
     (z .some, (z .most, (sym (c .before .before .before .bad-entry .ensures) ∙ c .before .before .if2 .left, (omega (arith, z .fits), omega (arith, c .before .if3 .left)))))
 
 cast-found : tie.Need-cast-found
-cast-found c = let z = sized (c .before .before .before .before .before .before .before .before .before .before .before .before .before .before .before) in omega arith
+cast-found c = let z = sized (c .before .before .before .before .before .before .before .before .before .before .before) in omega arith
 
 cast-done : tie.Need-cast-done
-cast-done c = let z = sized (c .before .before .before .before .before .before .before .before .before .before .before .before .before .before .before) in omega arith
+cast-done c = let z = sized (c .before .before .before .before .before .before .before .before .before .before .before) in omega arith
 
 add-done : tie.Need-add-done
-add-done c = let z = sized (c .before .before .before .before .before .before .before .before .before .before .before .before .before .before .before) in omega arith
+add-done c = let z = sized (c .before .before .before .before .before .before .before .before .before .before .before) in omega arith
 
 done-requires : tie.Need-done-requires
 done-requires c κs = search needs
@@ -112,7 +106,7 @@ same-length-3 c = search needs
 returns-4 : tie.Need-returns-4
 returns-4 c =
     let p = c .before .before in
-    answered (c .refuse2 .ensures) (join-refused _ _ _ _ (sized (p .before .before .before .before .before .before .before .before)) (sym (p .held .given .1) ∙ p .before .before .before .before .trees-held .ensures .0))
+    answered (c .refuse2 .ensures) (join-refused _ _ _ _ (sized (p .before .before .before .before)) (sym (p .held .given .1) ∙ p .before .before .holds-trees .ensures))
 
 same-length-4 : tie.Need-same-length-4
 same-length-4 c = search needs
@@ -120,9 +114,9 @@ same-length-4 c = search needs
 returns-5 : tie.Need-returns-5
 returns-5 c =
     let t = c .before .before .before .before .before .before .before .before in
-    let z = sized (t .before .before .before .before .before .before .before .before) in
+    let z = sized (t .before .before .before .before) in
     let g = sym (c .before .before .before .before .before .before .before .bad-entry .ensures) ∙ c .before .before .before .before .before .before .if2 .left in
-    join-done _ _ _ _ z (sym (t .enum-told .given .1) ∙ t .before .before .before .before .trees-held .ensures .0) g (good-parents _ (z .some) g) (c .done .ensures) (c .before .before .before .write-string .ensures) (c .before .before .before .before .before .if3 .left)
+    join-done _ _ _ _ z (sym (t .enum-told .given .1) ∙ t .before .before .holds-trees .ensures) g (good-parents _ (z .some) g) (c .done .ensures) (c .before .before .before .write-string .ensures) (c .before .before .before .before .before .if3 .left)
 
 pub join-spec : {M : Type 1} → statement M
 join-spec =
@@ -131,9 +125,7 @@ join-spec =
     wrong-to-join-requires
     refuse-requires
     returns
-    slice-aggregate-trees-held
-    slice-aggregate-trees-held-2
-    trees-held-requires
+    holds-trees-requires
     enum-known-held
     refuse-requires-2
     enum-told

@@ -3,7 +3,7 @@ use Prim.Native.Nat.{_-_}
 use mathlib.Core.Path.{_∙_, subst}
 use native.Mathlib.Omega.{arith}
 use Rattle.theory.specs.Stages.{blocksOfSamples}
-use Rattle.entries.proofs.Marking.{good-parents}
+use Rattle.entries.proofs.Rising.{good-parents}
 use Rattle.marks.specs.Passes.{Blank}
 use Rattle.marked.proofs.Following.{Following, following-first, following-last, following-place, following-small, following-next}
 use borrow.Author.Needs.{needs}

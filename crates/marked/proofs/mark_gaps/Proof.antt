@@ -7,7 +7,7 @@ use mathlib.Core.Path.{_∙_, sym, ap, ap₂}
 use native.Mathlib.Omega.{arith}
 use Rattle.theory.specs.Layout.{bitPlace}
 use Rattle.appending.proofs.Appending.{lit-length}
-use Rattle.entries.proofs.Marking.{good-parents}
+use Rattle.entries.proofs.Rising.{good-parents}
 use Rattle.marks.specs.Passes.{bytePlace}
 use Rattle.marked.proofs.Gapping.{Gapping, gapping-first, gapping-low, gapping-other, gapping-same, gapping-last}
 use borrow.Author.Needs.{needs}

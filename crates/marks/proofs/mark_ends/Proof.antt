@@ -2,7 +2,7 @@
 use Prim.Native.Nat.{_-_, _*_}
 use lib.ListN.{length}
 use native.Mathlib.Omega.{arith}
-use Rattle.entries.proofs.Marking.{good-parents}
+use Rattle.entries.proofs.Rising.{good-parents}
 use Rattle.marks.proofs.Ending.{Ending, ending-first, ending-few, ending-within, ending-next, ending-last}
 use borrow.Author.Needs.{needs}
 use Rattle.marks.proofs.mark_ends.Statement.{statement}

@@ -5,7 +5,7 @@ use lib.ListN.{length}
 use Rattle.theory.proofs.Lowest.{bad-within}
 use Rattle.theory.specs.Stages.{blocksNeeded}
 use Rattle.meaning.specs.Answers.{cameTo}
-use Rattle.entries.proofs.Marking.{good-parents}
+use Rattle.entries.proofs.Rising.{good-parents}
 use native.Mathlib.Omega.{arith}
 use mathlib.Core.Path.{sym, ap, ap₂, _∙_}
 use borrow.Author.Needs.{needs}

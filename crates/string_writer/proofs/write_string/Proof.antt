@@ -1,11 +1,12 @@
--- `entries::write_string` meets its contract.
+-- `string_writer::write_string` meets its contract.
 use Prim.Native.Nat.{_-_}
 use borrow.Author.Needs.{needs}
 use native.Mathlib.Omega.{arith}
 use lib.ListN.{length}
-use Rattle.entries.proofs.Marking.{Marked, good-parents, marked-first, marked-next, marked-last, entry-le}
-use Rattle.entries.proofs.write_string.Statement.{statement}
-use Rattle.entries.proofs.write_string.Tie as tie
+use Rattle.entries.proofs.Rising.{good-parents}
+use Rattle.string_writer.proofs.Marking.{Marked, marked-first, marked-next, marked-last, entry-le}
+use Rattle.string_writer.proofs.write_string.Statement.{statement}
+use Rattle.string_writer.proofs.write_string.Tie as tie
 
 abbrev Inv-loop : tie.InvT-loop
 Inv-loop buf₀ from ps i₀ buf i = Marked ps from buf₀ buf i

@@ -7,34 +7,13 @@ use native.Mathlib.Omega.{arith}
 use lib.ListN.{length, getD, take, drop, set, replicate, length-append, length-replicate, drop-of-length-le}
 use lib.Seq.{set-split, take-append-add, drop-append-add, drop-cons}
 use Rattle.meaning.specs.Strings.{Bit, O, I, stringFrom, stringOf}
-use Rattle.meaning.specs.Parents.{IsParents, badEntry}
+use Rattle.meaning.specs.Parents.{IsParents}
 use Rattle.theory.specs.Layout.{AreBytes}
-use Rattle.theory.proofs.Parents.{Later, later-lower, rule-later}
 use Rattle.theory.proofs.Forms.{string-size}
-use Rattle.theorems.proofs.Promises.{lowest-entry}
 use Rattle.appending.specs.Appended.{appended}
 use Rattle.bit.specs.Lit.{lit}
 use Rattle.appending.proofs.Appending.{lit-length, lit-appended, appended-over}
-
--- ---- entries that never fall, from z on, and never pass n
-
-abbrev pub Rising : ℕ → ℕ → List ℕ → Type 0
-Rising n z [] = Unit
-Rising n z (p ∷ ps) = (z ≤ p) × (p ≤ n) × Rising n p ps
-
-later-rising : (n i x : ℕ) (ps : List ℕ) → Later i x ps → i + length ps ≤ n → Rising n x ps
-later-rising n i x [] h l = tt
-later-rising n i x (p ∷ ps) h l = (h .0, omega (arith, h .1), later-rising n (suc i) p ps (h .2) (omega arith))
-
-pub parents-rising : (ps : List ℕ) → IsParents ps → Rising (length ps) 0 ps
-parents-rising [] h = tt
-parents-rising (p ∷ qs) h =
-    let e : p ≡ 0 = h .rule 1 (omega arith) (omega arith) in
-    let h′ : IsParents (0 ∷ qs) = subst (λ z. IsParents (z ∷ qs)) e h in
-    (omega arith, omega arith, subst (λ z. Rising (suc (length qs)) z qs) (sym e) (later-rising (suc (length qs)) 1 0 qs (later-lower 1 0 1 qs (omega arith) (rule-later qs (h′ .rule))) (omega arith)))
-
-pub good-parents : (ps : List ℕ) → 1 ≤ length ps → badEntry ps ≡ 0 → IsParents ps
-good-parents ps l e = lowest-entry ps l .0 .0 e
+use Rattle.entries.proofs.Rising.{Rising, parents-rising}
 
 -- ---- a one set in a run of zeros
 
