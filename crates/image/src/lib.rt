@@ -8,11 +8,10 @@ use blocks::image_in;
 use checked::Checked;
 use checked::refusal_of;
 use meaning::Answer;
-use meaning::FEWEST_BLOCKS;
-use meaning::MOST_BLOCKS;
 use meaning::NOT_IMAGE;
 use meaning::WRONG_SIZE;
 use meaning::WRONG_SUMS;
+use sizes::wrong_to_check;
 use stages::stages_pass;
 use wrong_blocks::wrong_block;
 
@@ -20,16 +19,10 @@ use wrong_blocks::wrong_block;
 pub fn check(b: &[u8]) -> Checked
     ensures { λ r. ⌜ r ≡ checked (now (b .entry)) ⌝ }
 {
+    if wrong_to_check(b.len()) {
+        return Checked::Refused(WRONG_SIZE, 0);
+    }
     let blocks = b.len() / 512;
-    if b.len() % 512 != 0 {
-        return Checked::Refused(WRONG_SIZE, 0);
-    }
-    if blocks < FEWEST_BLOCKS {
-        return Checked::Refused(WRONG_SIZE, 0);
-    }
-    if MOST_BLOCKS < blocks {
-        return Checked::Refused(WRONG_SIZE, 0);
-    }
     let wrong = wrong_block(b, blocks);
     if wrong < blocks {
         return Checked::Refused(WRONG_SUMS, wrong as u32);

@@ -14,7 +14,7 @@ use Rattle.meaning.specs.Parents.{parents}
 use Rattle.meaning.specs.Strings.{ones, lbs, R1, stringOf}
 use Rattle.meaning.specs.Blocks.{blocksIn, wrongBlock}
 use Rattle.meaning.specs.Image.{imageOfString, image, isImage, parentsIn}
-use Rattle.meaning.specs.Questions.{answer, degree}
+use Rattle.meaning.specs.Questions.{answer}
 use Rattle.meaning.specs.Listing.{listing, deep}
 use Rattle.meaning.specs.Answers.{refusedWith, counts, settle, written}
 use Rattle.meaning.specs.Calls.{wrongSize, checkRows, checkImage, listImage}

@@ -8,7 +8,7 @@ use Rattle.meaning.specs.Trees.{Tree, Trees, node, none, _then_, Node, depth, b
 use Rattle.meaning.specs.Parents.{parents}
 use Rattle.meaning.specs.Image.{image, parentsIn}
 use Rattle.meaning.specs.Listing.{listing, deep}
-use Rattle.theory.specs.Walks.{root, nodeAt, depthFirst, depthFirstOf, everything, Lists, AllBelow}
+use Rattle.theory.specs.Walks.{nodeAt, depthFirst, depthFirstOf, everything, Lists, AllBelow}
 use Rattle.theory.proofs.Forms.{length-parents}
 use Rattle.theory.proofs.TreeImages.{is-image, parents-in}
 use Rattle.theory.proofs.Addresses.{first-node}

@@ -1,2 +1,3 @@
 pub mod ToSplit
 pub mod ToJoin
+pub mod ToCheck

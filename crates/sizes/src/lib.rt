@@ -1,7 +1,10 @@
-// The sizes of packs that are split, and of packs and trees that are joined (document 01, code 2).
+// The sizes of packs that are split, of packs and trees that are joined, and of images (document 01, code 2).
 ghost use Rattle.sizes.specs.ToSplit.{ToldToSplit};
 ghost use Rattle.sizes.specs.ToJoin.{ToldToJoin};
+ghost use Rattle.sizes.specs.ToCheck.{ToldToCheck};
+use meaning::FEWEST_BLOCKS;
 use meaning::MOST_BITS;
+use meaning::MOST_BLOCKS;
 use meaning::MOST_NODES;
 use meaning::MOST_TREES;
 
@@ -42,6 +45,22 @@ pub fn wrong_to_join(bytes: usize, bits: usize, trees: usize, nodes: usize) -> b
     }
     let longer = bits + (2 * nodes + 1);
     if MOST_BITS < longer {
+        return true;
+    }
+    false
+}
+
+// Is the number of bytes of an image wrong?
+pub fn wrong_to_check(bytes: usize) -> bool
+    ensures { λ r. ⌜ ToldToCheck r bytes ⌝ }
+{
+    if bytes % 512 != 0 {
+        return true;
+    }
+    if bytes / 512 < FEWEST_BLOCKS {
+        return true;
+    }
+    if MOST_BLOCKS < bytes / 512 {
         return true;
     }
     false
