@@ -26,7 +26,7 @@ wrong-to-check-requires : tie.Need-wrong-to-check-requires
 wrong-to-check-requires c κs = search needs
 
 returns : tie.Need-returns
-returns c = found-size (c .before .before .before .args .b .now) (told-wrong _ (c .before .wrong-to-check .ensures) (c .if1 .taken))
+returns c = let bytes = c .before .before .before .args .b .now in found-size bytes (told-wrong bytes (c .before .wrong-to-check .ensures) (c .if1 .taken))
 
 wrong-block-requires : tie.Need-wrong-block-requires
 wrong-block-requires c κs = let z = sized c in (omega (arith, z .whole), omega (arith, z .most))
@@ -38,7 +38,7 @@ returns-2 : tie.Need-returns-2
 returns-2 c =
     let bytes = c .before .before .before .before .before .args .b .now in
     let e = c .before .wrong-block .ensures in
-    ap (Refused 6) e ∙ found-block bytes (none-wrong _ (sized (c .before .before))) (lt-ltb (wrongBlock bytes) (blocksIn bytes) (omega (arith, e, c .if2 .taken)))
+    ap (Refused 6) e ∙ found-block bytes (none-wrong bytes (sized (c .before .before))) (lt-ltb (wrongBlock bytes) (blocksIn bytes) (omega (arith, e, c .if2 .taken)))
 
 stages-pass-requires : tie.Need-stages-pass-requires
 stages-pass-requires c κs = let z = sized (c .before .before) in (omega (arith, z .whole), (z .some, z .most))
@@ -47,7 +47,7 @@ returns-3 : tie.Need-returns-3
 returns-3 c =
     let s = c .before .before in
     let bytes = s .before .before .before .before .before .args .b .now in
-    found-other bytes (none-wrong _ (sized (s .before .before))) (le-ltb (wrongBlock bytes) (blocksIn bytes) (summed s))
+    found-other bytes (none-wrong bytes (sized (s .before .before))) (le-ltb (wrongBlock bytes) (blocksIn bytes) (summed s))
     (unstaged bytes (says-missed (c .before .stages-pass .result) _ (c .before .stages-pass .ensures) (c .if3 .taken)))
 
 image-in-requires : tie.Need-image-in-requires
@@ -63,7 +63,7 @@ returns-4 c =
     let z = sized (s .before .before) in
     let passed = says-held (c .before .before .stages-pass .result) _ (c .before .before .stages-pass .ensures) (c .before .if3 .left) in
     ap Sound (c .image-in .ensures)
-    ∙ found-sound bytes (none-wrong _ z) (le-ltb (wrongBlock bytes) (blocksIn bytes) (summed s))
+    ∙ found-sound bytes (none-wrong bytes z) (le-ltb (wrongBlock bytes) (blocksIn bytes) (summed s))
     (staged bytes (λ k l. omega (arith, s .before .before .before .before .shared-slice-known .given k)) (omega (arith, z .whole)) (summed s) passed)
 
 pub check-spec : {M : Type 1} → statement M
