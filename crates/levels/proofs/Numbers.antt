@@ -1,7 +1,7 @@
 -- In an image that the check found sound: the ones before a zero, as its strings give them, are those of its tree's string; and what single bits of its strings tell of them.
 use mathlib.Core.Path.{_≡_, refl, sym, ap, ap₂, _∙_, subst}
 use mathlib.Core.List.{List, [], _∷_}
-use Prim.Native.Nat.{ℕ, zero, suc, _+_, _-_, _*_, _%_, _≤_, _<_}
+use Prim.Native.Nat.{ℕ, zero, suc, _+_, _-_, _≤_, _<_}
 use native.Mathlib.Decide.{decLt}
 use native.Mathlib.Numerals.{add-one}
 use native.Mathlib.Omega.{arith}
@@ -27,7 +27,7 @@ use Rattle.checked.specs.declared.Image.{Image}
 use Rattle.checked.specs.declared.Checked.the-variants.{Sound}
 use Rattle.checked.specs.Checked.{checked}
 use Rattle.checked.proofs.Finding.{sound-known}
-use Rattle.bit.proofs.Values.{is-O, is-I, value-le}
+use Rattle.bit.proofs.Values.{is-O, is-I}
 use Rattle.runs.proofs.Own.{strings}
 use Rattle.levels.specs.Levels.{low}
 
@@ -154,19 +154,3 @@ module _ (bytes : List ℕ) (i : Image) (found : checked bytes ≡ Sound i) wher
           | no m ↦ omega arith
         ]
       ]
-
-  -- both bits in one number
-  abbrev pub Marks : ℕ → ℕ → Type 0
-  Marks y seen = seen ≡ 2 * value (bitOf (readR1 bytes) y) + value (bitOf (readR0 bytes) y)
-
-  pub inner-or-leaf : (y seen : ℕ) → 1 ≤ y → y ≤ i .nodes → Marks y seen → (seen % 2 ≡ 0 → low bytes (y + 1) ≡ low bytes y) × ((seen % 2 ≡ 0 → ⊥) → low bytes y < low bytes (y + 1))
-  inner-or-leaf y seen g h e =
-      let r = child-mark y (value (bitOf (readR0 bytes) y)) g h refl in
-      let most = value-le (bitOf (readR0 bytes) y) (value (bitOf (readR0 bytes) y)) refl in
-      (λ z. r .0 (omega arith), λ z. r .1 (λ q. z (omega arith)))
-
-  pub last-or-not : (x y seen : ℕ) → low bytes x < y → y ≤ low bytes (x + 1) → Marks y seen → (seen < 2 → y < low bytes (x + 1)) × (2 ≤ seen → y ≡ low bytes (x + 1))
-  last-or-not x y seen g h e =
-      let r = last-mark x y (value (bitOf (readR1 bytes) y)) g h refl in
-      let most = value-le (bitOf (readR0 bytes) y) (value (bitOf (readR0 bytes) y)) refl in
-      (λ z. r .0 (omega arith), λ z. r .1 (λ q. omega arith))

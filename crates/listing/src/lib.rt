@@ -9,11 +9,11 @@ use checked::refusal_of;
 use image::check;
 use levels::Measured;
 use levels::measure;
-use listing_writer::write_listing;
 use meaning::Answer;
 use meaning::NO_ROOM;
 use meaning::NOT_ALLOWED;
 use meaning::TOO_DEEP;
+use writer::list_node;
 
 // The listing of a node: all that may refuse it is found before anything is written.
 pub fn list(b: &[u8], node: u32, out: &mut [u32]) -> Answer
@@ -37,7 +37,7 @@ pub fn list(b: &[u8], node: u32, out: &mut [u32]) -> Answer
             if out.len() < 2 * nodes as usize {
                 return refuse(NO_ROOM, 0);
             }
-            write_listing(b, image, x, &mut cursors, out);
+            list_node(b, image.zeros as usize, node, 64, &mut cursors, out);
             done(nodes, 0)
         }
     }

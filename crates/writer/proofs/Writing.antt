@@ -13,10 +13,13 @@ use Rattle.theory.specs.Rank.{counting}
 use Rattle.checked.specs.declared.Image.{Image}
 use Rattle.checked.specs.declared.Checked.the-variants.{Sound}
 use Rattle.checked.specs.Checked.{checked}
-use Rattle.levels.specs.Levels.{low}
-use Rattle.writer.specs.Writing.{under}
+use Rattle.checked.proofs.Finding.{sound-known}
+use Rattle.levels.specs.Levels.{low, below}
+use Rattle.levels.specs.Cursors.{Ready}
+use Rattle.writer.specs.Writing.{MovedOn, pairsOf, ToList, Listed}
 use Rattle.levels.proofs.Levels.{listing-node}
 use Rattle.levels.proofs.Numbers.{low-mono, low-kids}
+use Rattle.writer.proofs.Cursors.{Along, along-more, above-stay, ready-below}
 
 -- ---- listings, one after the other
 
@@ -35,38 +38,44 @@ listings-step ps f d a z h =
     ∙ ap (λ k. listing f ps k d ++ forEach (λ c. listing f ps c d) (counting (suc k) (z - (a + 1)))) (sym (add-one a))
 
 -- a node, and then its children, where f of the 64 levels are left
-module _ (bytes : List ℕ) (i : Image) (found : checked bytes ≡ Sound i) (f x : ℕ) (some : 1 ≤ f) (most : f ≤ 64) where
-  pub listing-step : listing f (parentsIn bytes) x (64 - f) ≡ x ∷ (64 - f) ∷ listings (parentsIn bytes) (f - 1) (64 - (f - 1)) (low bytes x) (low bytes (x + 1))
-  unfolding listings
-  listing-step =
-      let ps = parentsIn bytes in
-      ap (λ k. listing k ps x (64 - f)) (let q : f ≡ suc (f - 1) = omega arith in q)
-      ∙ listing-node ps (low bytes) (low-mono bytes i found) (low-kids bytes i found) (f - 1) x (64 - f)
-      ∙ ap₂ (λ k z. x ∷ (64 - f) ∷ forEach (λ c. listing (f - 1) ps c k) (counting (suc (low bytes x)) (z - low bytes x)))
-      (let q : suc (64 - f) ≡ 64 - (f - 1) = omega arith in q) (ap (low bytes) (sym (add-one x)))
+pub listing-step : (bytes : List ℕ) (i : Image) → checked bytes ≡ Sound i → (f x : ℕ) → 1 ≤ f → f ≤ 64
+    → pairsOf bytes f x ≡ x ∷ (64 - f) ∷ listings (parentsIn bytes) (f - 1) (64 - (f - 1)) (low bytes x) (low bytes (x + 1))
+unfolding listings
+listing-step bytes i found f x some most =
+    let ps = parentsIn bytes in
+    ap (λ k. listing k ps x (64 - f)) (let q : f ≡ suc (f - 1) = omega arith in q)
+    ∙ listing-node ps (low bytes) (low-mono bytes i found) (low-kids bytes i found) (f - 1) x (64 - f)
+    ∙ ap₂ (λ k z. x ∷ (64 - f) ∷ forEach (λ c. listing (f - 1) ps c k) (counting (suc (low bytes x)) (z - low bytes x)))
+    (let q : suc (64 - f) ≡ 64 - (f - 1) = omega arith in q) (ap (low bytes) (sym (add-one x)))
 
-  pub under-step : under bytes f x ≡ listings (parentsIn bytes) (f - 1) (64 - (f - 1)) (low bytes x) (low bytes (x + 1))
-  under-step = ap (drop 2) listing-step
+-- ---- the node that is listed first, with all 64 levels left and none of its siblings
 
-  -- its own pair, and what is below it
-  pub pair-first : listing f (parentsIn bytes) x (64 - f) ≡ x ∷ (64 - f) ∷ under bytes f x
-  pair-first = listing-step ∙ ap (λ r. x ∷ (64 - f) ∷ r) (sym under-step)
-
-  pub under-leaf : low bytes (x + 1) ≡ low bytes x → under bytes f x ≡ []
-  under-leaf e = under-step ∙ listings-none (parentsIn bytes) (f - 1) (64 - (f - 1)) (low bytes x) (low bytes (x + 1)) (omega arith)
+pub to-list : (bytes : List ℕ) (i : Image) → checked bytes ≡ Sound i → (x : ℕ) (cs out : List ℕ) → 1 ≤ x → x ≤ i .nodes
+    → length cs ≡ 64 → Ready (below bytes) cs (x - 1) x → length (pairsOf bytes 64 x) ≤ length out → ToList bytes (i .zeros) x 64 cs out
+to-list bytes i found x cs out some most count ready room =
+    let read = sound-known bytes i found .read in
+    record {
+      node = record { sound = found ∙ ap Sound read; some = some; most = omega (arith, ap (λ j. j .nodes) read) };
+      begins = ap (λ j. j .zeros) read;
+      some = omega arith;
+      most = omega arith;
+      count = count;
+      ready = ready-below bytes x cs some ready;
+      room = room;
+    }
 
 -- ---- a list whose front is written
 
--- a pair more
-pub pair-put : (w o : List ℕ) (at x d : ℕ) → at ≡ length w → length w + 2 ≤ length o → set (set (written w o) at x) (at + 1) d ≡ written (w ++ x ∷ d ∷ []) o
-pair-put w o at x d e h = ap (λ n. set (set (written w o) at x) n d) (add-one at) ∙ ap (λ n. set (set (written w o) n x) (suc n) d) e ∙ go w o h
-  where
-    go : (w o : List ℕ) → length w + 2 ≤ length o → set (set (written w o) (length w) x) (suc (length w)) d ≡ written (w ++ x ∷ d ∷ []) o
-    go [] [] h = absurd (omega arith)
-    go [] (a ∷ []) h = absurd (omega arith)
-    go [] (a ∷ b ∷ o) h = refl
-    go (v ∷ w) [] h = absurd (omega arith)
-    go (v ∷ w) (a ∷ o) h = ap (λ r. v ∷ r) (go w o (omega arith))
+-- a pair put there, and then more behind it
+pub pair-put : (x d : ℕ) (o : List ℕ) → 2 ≤ length o → set (set o 0 x) 1 d ≡ written (x ∷ d ∷ []) (set (set o 0 x) 1 d)
+pair-put x d [] h = absurd (omega arith)
+pair-put x d (a ∷ []) h = absurd (omega arith)
+pair-put x d (a ∷ b ∷ o) h = refl
+
+pub pair-first : (x d : ℕ) (v w o : List ℕ) → v ≡ x ∷ d ∷ w → 2 ≤ length o → written v (set (set o 0 x) 1 d) ≡ written v o
+pair-first x d v w [] e h = absurd (omega arith)
+pair-first x d v w (a ∷ []) e h = absurd (omega arith)
+pair-first x d v w (a ∷ b ∷ o) e h = rw e refl
 
 pub front-length : (w o : List ℕ) → length w ≤ length o → length (written w o) ≡ length o
 front-length w o h = simp (length-append, length-drop) (omega arith)
@@ -82,16 +91,61 @@ back w o fits out p ys n e en ey =
     let y : take (length out - n) (drop n out) ≡ drop n out = take-all (length out - n) (drop n out) (simp length-drop (omega arith)) in
     rw (ey, t, z, y, d, drop-drop, length-append) (simp (append-assoc, append-nil))
 
-module _ (w whole rest : List ℕ) (is : w ++ rest ≡ whole) where
-  -- there is room for the next part p
-  pub room : (out o p more : List ℕ) → out ≡ written w o → rest ≡ p ++ more → length whole ≤ length o → (length out ≡ length o) × (length w + length p ≤ length o)
-  room out o p more e s h =
-      let a = simp length-append at (ap length (ap (λ (l : List ℕ). w ++ l) (sym s) ∙ is)) in
-      (ap length e ∙ front-length w o (omega arith), omega arith)
+-- ---- while the children of node x are listed, where `left` levels are left: at first the cursors are cs₀ and the list out₀
 
-  pub grows : (p more : List ℕ) → rest ≡ p ++ more → (w ++ p) ++ more ≡ whole
-  grows p more s = append-assoc w p more ∙ ap (λ (l : List ℕ). w ++ l) (sym s) ∙ is
+-- those up to a are listed
+pub record Going (bytes : List ℕ) (x left : ℕ) (cs₀ out₀ cs out : List ℕ) (filled a : ℕ) : Type 0 where
+  pub w : List ℕ
+  pub front : out ≡ written w out₀
+  pub whole : w ++ listings (parentsIn bytes) (left - 1) (64 - (left - 1)) a (low bytes (x + 1)) ≡ pairsOf bytes left x
+  pub many : filled ≡ length w
+  pub from : low bytes x ≤ a
+  pub count : length cs ≡ 64
+  pub above : take (65 - left) cs ≡ take (65 - left) cs₀
+  pub along : Along bytes x (65 - left) cs₀ cs a
 
-  -- nothing is left
-  pub ended : rest ≡ [] → w ≡ whole
-  ended e = sym (append-nil w) ∙ ap (λ (l : List ℕ). w ++ l) (sym e) ∙ is
+module _ (bytes : List ℕ) (x left : ℕ) (cs₀ out₀ cs out : List ℕ) (filled a : ℕ) (g : Going bytes x left cs₀ out₀ cs out filled a) where
+  -- all are
+  pub going-all : low bytes (x + 1) ≤ a → (out ≡ written (pairsOf bytes left x) out₀) × (filled ≡ length (pairsOf bytes left x))
+  going-all h =
+      let none = listings-none (parentsIn bytes) (left - 1) (64 - (left - 1)) a (low bytes (x + 1)) h in
+      let e : g .w ≡ pairsOf bytes left x = sym (append-nil (g .w)) ∙ ap (λ (l : List ℕ). g .w ++ l) (sym none) ∙ g .whole in
+      (g .front ∙ ap (λ w. written w out₀) e, g .many ∙ ap length e)
+
+  module _ (more : a < low bytes (x + 1)) (room : length (pairsOf bytes left x) ≤ length out₀) where
+    next : g .w ++ (pairsOf bytes (left - 1) (a + 1) ++ listings (parentsIn bytes) (left - 1) (64 - (left - 1)) (a + 1) (low bytes (x + 1))) ≡ pairsOf bytes left x
+    next = ap (λ (l : List ℕ). g .w ++ l) (sym (listings-step (parentsIn bytes) (left - 1) (64 - (left - 1)) a (low bytes (x + 1)) more)) ∙ g .whole
+
+    -- there is room for the next one
+    pub going-room : (length out ≡ length out₀) × (filled + length (pairsOf bytes (left - 1) (a + 1)) ≤ length out₀)
+    going-room =
+        let long = simp length-append at (ap length next) in
+        let many = g .many in
+        (ap length (g .front) ∙ front-length (g .w) out₀ (omega arith), omega arith)
+
+    -- and it is listed
+    pub going-more : (i : Image) → checked bytes ≡ Sound i → 2 ≤ left → left ≤ 64 → (cs' part part' : List ℕ) (n : ℕ)
+        → part ≡ take (length out - filled) (drop filled out)
+        → Listed bytes (a + 1) (left - 1) (set cs (65 - left) (a + 1)) cs' part part' n
+        → Going bytes x left cs₀ out₀ cs' (take filled out ++ (part' ++ drop (length out - filled) (drop filled out))) (filled + n) (a + 1)
+    going-more i found some most cs' part part' n lent new =
+        let e = 65 - left in
+        let long = simp length-append at (ap length next) in
+        let many = g .many in
+        let many' = new .many in
+        let from = g .from in
+        let level : 65 - (left - 1) ≡ suc e = omega arith in
+        let stay : take (suc e) cs' ≡ take (suc e) (set cs e (a + 1)) = rw level at (new .above) in
+        let moved : MovedOn bytes (a + 1) (drop (suc e) (set cs e (a + 1))) (drop (suc e) cs') = rw level at (new .moved) in
+        let count = g .count in
+        let count' = new .count in
+        record {
+          w = g .w ++ pairsOf bytes (left - 1) (a + 1);
+          front = back (g .w) out₀ (omega arith) out (pairsOf bytes (left - 1) (a + 1)) part' filled (g .front) (g .many) (new .pairs ∙ ap (written (pairsOf bytes (left - 1) (a + 1))) lent);
+          whole = append-assoc (g .w) (pairsOf bytes (left - 1) (a + 1)) (listings (parentsIn bytes) (left - 1) (64 - (left - 1)) (a + 1) (low bytes (x + 1))) ∙ next;
+          many = simp length-append (omega arith);
+          from = omega arith;
+          count = new .count;
+          above = above-stay cs cs' e (a + 1) stay ∙ g .above;
+          along = along-more bytes i found x e cs₀ cs a more (g .along) cs' (omega arith) (omega arith) stay moved;
+        }

@@ -1,4 +1,4 @@
--- What writing a listing by the cursors of its levels needs and gives.
+-- What listing a node by the cursors of its levels needs and gives.
 use mathlib.Core.Path.{_≡_}
 use mathlib.Core.List.{List}
 use Prim.Native.Nat.{ℕ, _+_, _-_, _≤_, _<_}
@@ -18,31 +18,30 @@ pub record NodeIn (bytes : List ℕ) (x : ℕ) : Type 0 where
   pub some : 1 ≤ x
   pub most : x ≤ nodesOf bytes
 
--- once everything below node x is listed: cursors that were ready for all below x and below the nodes after it, up to any z - 1, are ready for all below these
+-- once node x is listed: cursors that were ready for all below x and below the nodes after it, up to any z - 1, are ready for all below these
 abbrev pub MovedOn : List ℕ → ℕ → List ℕ → List ℕ → Type 0
 MovedOn bytes x before after = (z : ℕ) → x < z → Ready (below bytes) before (low bytes x) (low bytes z) → Ready (below bytes) after (low bytes (x + 1)) (low bytes z)
 
--- ---- writing everything below node x, which has a child, where `left` of the 64 levels are left, x's own among them: cursor 65 - left is that of x's children
+-- ---- listing node x where `left` of the 64 levels are left, its own among them: cursor 65 - left is that of its children
 
--- the listing of x behind its own pair
-abbrev pub under : List ℕ → ℕ → ℕ → List ℕ
-under bytes left x = drop 2 (listing left (parentsIn bytes) x (64 - left))
+-- its pairs
+abbrev pub pairsOf : List ℕ → ℕ → ℕ → List ℕ
+pairsOf bytes left x = listing left (parentsIn bytes) x (64 - left)
 
 -- what it needs
-pub record ToWrite (bytes : List ℕ) (zeros x left : ℕ) (cursors out : List ℕ) : Type 0 where
+pub record ToList (bytes : List ℕ) (zeros x left : ℕ) (cursors out : List ℕ) : Type 0 where
   pub node : NodeIn bytes x
   pub begins : zeros ≡ zerosFrom (nodesOf bytes)
-  pub inner : low bytes x < low bytes (x + 1)
   pub some : 1 ≤ left
   pub most : left ≤ 64
   pub count : length cursors ≡ 64
   pub ready : Ready (below bytes) (drop (65 - left) cursors) (low bytes x) (low bytes (x + 1))
-  pub room : length (under bytes left x) ≤ length out
+  pub room : length (pairsOf bytes left x) ≤ length out
 
 -- what it gives: n numbers are written, and the cursors of the levels below x have moved on
-pub record Wrote (bytes : List ℕ) (x left : ℕ) (cursors cursors' out out' : List ℕ) (n : ℕ) : Type 0 where
-  pub listed : out' ≡ written (under bytes left x) out
-  pub many : n ≡ length (under bytes left x)
+pub record Listed (bytes : List ℕ) (x left : ℕ) (cursors cursors' out out' : List ℕ) (n : ℕ) : Type 0 where
+  pub pairs : out' ≡ written (pairsOf bytes left x) out
+  pub many : n ≡ length (pairsOf bytes left x)
   pub count : length cursors' ≡ 64
   pub above : take (65 - left) cursors' ≡ take (65 - left) cursors
   pub moved : MovedOn bytes x (drop (65 - left) cursors) (drop (65 - left) cursors')

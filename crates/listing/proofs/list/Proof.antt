@@ -4,6 +4,7 @@ use native.Mathlib.Nat.{pos-of-ne-zero}
 use Rattle.meaning.specs.Answers.{cameTo}
 use Rattle.checked.specs.declared.Checked.the-variants.{Sound}
 use Rattle.checked.specs.Checked.{answered, checked}
+use Rattle.writer.proofs.Writing.{to-list}
 use Rattle.listing.proofs.Calling.{list-refused, list-zero, list-beyond, list-deep, list-short, list-room, list-given, where-fits}
 use borrow.Author.Needs.{needs}
 use Rattle.listing.proofs.list.Statement.{statement}
@@ -85,9 +86,12 @@ returns-4 c =
     ∙ list-short (a .b .now) (a .node) (a .out .now) (k .before .found .given .0 .0) (sound k) (pos-of-ne-zero (e .before .before .if1 .left)) (e .if2 .left)
     (n .nodes .given .0 .0) (sym (n .nodes .given .1) ∙ n .before .before .measure .ensures .0) (c .before .if3 .taken)
 
-write-listing-requires : tie.Need-write-listing-requires
-write-listing-requires c κs =
-    let f = c .before .before in
+cast-list-node : tie.Need-cast-list-node
+cast-list-node c = search needs
+
+list-node-requires : tie.Need-list-node-requires
+list-node-requires c κs =
+    let f = c .before .before .before in
     let n = f .before .before in
     let e = n .before .before .before .before in
     let k = e .before .before .before in
@@ -97,7 +101,7 @@ write-listing-requires c κs =
     let room =
     list-room (a .b .now) (a .node) (a .out .now) (k .before .found .given .0 .0) (sound k) some (e .if2 .left)
     (n .nodes .given .0 .0) (sym (n .nodes .given .1) ∙ measured .0) (f .if3 .left) in
-    (sound k, (some, (e .if2 .left, (measured .1 .0, (where-fits _ _ (n .nodes .given .1) (measured .1 .1), room)))))
+    to-list (a .b .now) (k .before .found .given .0 .0) (sound k) (a .node) _ (a .out .now) some (e .if2 .left) (measured .1 .0) (where-fits _ _ (n .nodes .given .1) (measured .1 .1)) room
 
 done-requires : tie.Need-done-requires
 done-requires c κs = search needs
@@ -118,13 +122,13 @@ same-length c = search needs
 returns-6 : tie.Need-returns-6
 returns-6 c =
     let w = c .before .before .before in
-    let f = w .before .before .before in
+    let f = w .before .before .before .before in
     let n = f .before .before in
     let e = n .before .before .before .before in
     let k = e .before .before .before in
     let a = k .before .before .before .before .before .before .args in
     list-given (a .b .now) (a .node) (a .out .now) (k .before .found .given .0 .0) (sound k) (pos-of-ne-zero (e .before .before .if1 .left)) (e .if2 .left)
-    (n .nodes .given .0 .0) (sym (n .nodes .given .1) ∙ n .before .before .measure .ensures .0) (f .if3 .left) _ _ (c .done .ensures) (w .write-listing .ensures)
+    (n .nodes .given .0 .0) (sym (n .nodes .given .1) ∙ n .before .before .measure .ensures .0) (f .if3 .left) _ _ (c .done .ensures) (w .list-node .ensures .pairs)
 
 pub list-spec : {M : Type 1} → statement M
 list-spec =
@@ -147,7 +151,8 @@ list-spec =
     mul-if3
     refuse-requires-4
     returns-4
-    write-listing-requires
+    cast-list-node
+    list-node-requires
     done-requires
     returns-5
     same-length
