@@ -1,5 +1,5 @@
 -- What the reading of a tree needs at each bit, over bytes: where the bits end, the closing bit, the bit past the limit, and any other.
-use mathlib.Core.Path.{_≡_, refl, sym, ap, ap₂, _∙_}
+use mathlib.Core.Path.{_≡_, refl, sym, ap, ap₂, _∙_, subst}
 use mathlib.Core.List.{List, _∷_}
 use Prim.Native.Nat.{ℕ, zero, suc, _+_, _-_, _*_, _/_, _%_, _^_, _≤_, _<_}
 use native.Mathlib.Numerals.{add-one}
@@ -57,6 +57,17 @@ step-on I bs i w zero h g = absurd (omega arith)
 step-on I bs i w (suc m) h g =
     ap₂ (insideEnd bs (suc i)) (let e : suc w ≡ w + 2 * 1 - 1 = omega arith in e) (let e : m ≡ suc m - 1 = omega arith in e)
 
+-- after r bits of a tree, the first two of them 10: w nodes are pending besides the one that is read, at first the super-root, and m more are allowed
+abbrev pub Counted : ℕ → ℕ → ℕ → Type 0
+Counted zero w m = (w ≡ 0) × (m ≡ 65535)
+Counted (suc zero) w m = (w ≡ 1) × (m ≡ 65534)
+Counted (suc (suc r)) w m = w + m ≤ 65534
+
+pub counted-inside : (r w m : ℕ) → 2 ≤ r → (Counted r w m → w + m ≤ 65534) × (w + m ≤ 65534 → Counted r w m)
+counted-inside zero w m h = absurd (omega arith)
+counted-inside (suc zero) w m h = absurd (omega arith)
+counted-inside (suc (suc r)) w m h = (λ k. k, λ k. k)
+
 module _ (b : List ℕ) (n : ℕ) where
   -- the end of a tree of which p bits are read, w nodes are pending and m more allowed
   unfoldable pub endFrom : ℕ → ℕ → ℕ → End
@@ -89,46 +100,127 @@ module _ (b : List ℕ) (n : ℕ) where
         ∙ ap (λ y. insideEnd bs (suc p) (w + 2 * y - 1) (m - y)) (sym v)
         ∙ ap (λ q. insideEnd bs q (w + 2 * x - 1) (m - x)) (sym (add-one p))
 
-  -- ---- how a tree begins
+  -- ---- a tree from its first bit on: it begins with 10
 
-  pub begin-none : (p : ℕ) → p ≡ n → treeEnd (bitsFrom b p (n - p)) p ≡ refused (p + 1)
-  unfolding treeEnd
-  begin-none p e = ap (λ r. treeEnd r p) (rest-nil b p n (omega arith)) ∙ ap refused (sym (add-one p))
+  -- the end of a tree that starts after `at` bits and of which r bits are read, up to bit p
+  unfoldable pub openEnd : ℕ → ℕ → ℕ → ℕ → ℕ → End
+  openEnd zero at p w m = treeEnd (bitsFrom b p (n - p)) p
+  openEnd (suc zero) at p w m = treeEnd (I ∷ bitsFrom b p (n - p)) at
+  openEnd (suc (suc r)) at p w m = endFrom p w m
 
-  module _ (p x : ℕ) (l : p < n) (v : x ≡ value (bitAt b p)) where
-    pub begin-zero : x ≡ 0 → treeEnd (bitsFrom b p (n - p)) p ≡ refused (p + 1)
-    unfolding treeEnd
-    begin-zero z =
-        ap (λ r. treeEnd r p) (rest-cons b p n l)
-        ∙ ap (λ y. treeEnd (y ∷ bitsFrom b (p + 1) (n - (p + 1))) p) (value-O (bitAt b p) (omega arith))
-        ∙ ap refused (sym (add-one p))
+  read-inside : (r at p w m : ℕ) → 2 ≤ r → openEnd r at p w m ≡ endFrom p w m
+  unfolding openEnd
+  read-inside zero at p w m h = absurd (omega arith)
+  read-inside (suc zero) at p w m h = absurd (omega arith)
+  read-inside (suc (suc r)) at p w m h = refl
 
-    begin-one : (x ≡ 0 → ⊥) → treeEnd (bitsFrom b p (n - p)) p ≡ treeEnd (I ∷ bitsFrom b (p + 1) (n - (p + 1))) p
-    begin-one z =
-        ap (λ r. treeEnd r p) (rest-cons b p n l)
-        ∙ ap (λ y. treeEnd (y ∷ bitsFrom b (p + 1) (n - (p + 1))) p) (value-I (bitAt b p) (λ e. z (omega arith)))
+  read-none : (r at p w m : ℕ) → p ≡ at + r → p ≡ n → openEnd r at p w m ≡ refused (n + 1)
+  unfolding openEnd treeEnd
+  read-none zero at p w m e h = ap (λ l. treeEnd l p) (rest-nil b p n (omega arith)) ∙ ap refused (let z : suc p ≡ n + 1 = omega arith in z)
+  read-none (suc zero) at p w m e h = ap (λ l. treeEnd (I ∷ l) at) (rest-nil b p n (omega arith)) ∙ ap refused (let z : suc (suc at) ≡ n + 1 = omega arith in z)
+  read-none (suc (suc r)) at p w m e h = end-none p w m h
 
-    pub begin-alone : (x ≡ 0 → ⊥) → p + 1 ≡ n → treeEnd (bitsFrom b p (n - p)) p ≡ refused (p + 2)
-    unfolding treeEnd
-    begin-alone z e =
-        begin-one z
-        ∙ ap (λ r. treeEnd (I ∷ r) p) (rest-nil b (p + 1) n (omega arith))
-        ∙ ap refused (let q : suc (suc p) ≡ p + 2 = omega arith in q)
+  -- the bit that is read, x, is not a first 0 or a second 1, or it is
+  module _ (at p w m x : ℕ) (l : p < n) (v : x ≡ value (bitAt b p)) where
+    bit-here : (y : Bit) → bitAt b p ≡ y → bitsFrom b p (n - p) ≡ y ∷ bitsFrom b (p + 1) (n - (p + 1))
+    bit-here y e = rest-cons b p n l ∙ ap (λ z. z ∷ bitsFrom b (p + 1) (n - (p + 1))) e
 
-    module _ (z : x ≡ 0 → ⊥) (y : ℕ) (k : p + 1 < n) (u : y ≡ value (bitAt b (p + 1))) where
-      second : treeEnd (bitsFrom b p (n - p)) p ≡ treeEnd (I ∷ bitAt b (p + 1) ∷ bitsFrom b (p + 1 + 1) (n - (p + 1 + 1))) p
-      second = begin-one z ∙ ap (λ r. treeEnd (I ∷ r) p) (rest-cons b (p + 1) n k)
+    read-wrong : (r : ℕ) → p ≡ at + r → p ≡ at + x → openEnd r at p w m ≡ refused (p + 1)
+    unfolding openEnd treeEnd
+    read-wrong zero e h = ap (λ s. treeEnd s p) (bit-here O (value-O (bitAt b p) (omega arith))) ∙ ap refused (sym (add-one p))
+    read-wrong (suc zero) e h =
+        ap (λ s. treeEnd (I ∷ s) at) (bit-here I (value-I (bitAt b p) (λ z. omega arith))) ∙ ap refused (let q : suc (suc at) ≡ p + 1 = omega arith in q)
+    read-wrong (suc (suc r)) e h = absurd (omega (arith, value-le (bitAt b p)))
 
-      pub begin-second : (y ≡ 0 → ⊥) → treeEnd (bitsFrom b p (n - p)) p ≡ refused (p + 2)
-      unfolding treeEnd
-      begin-second h =
-          second
-          ∙ ap (λ t. treeEnd (I ∷ t ∷ bitsFrom b (p + 1 + 1) (n - (p + 1 + 1))) p) (value-I (bitAt b (p + 1)) (λ e. h (omega arith)))
-          ∙ ap refused (let q : suc (suc p) ≡ p + 2 = omega arith in q)
+    module _ (right : p ≡ at + x → ⊥) where
+      read-over : (r : ℕ) → p ≡ at + r → Counted r w m → w + x ≡ 0 → openEnd r at p w m ≡ over (p + 1) (65535 - m)
+      unfolding openEnd
+      read-over zero e k h = absurd (right (omega arith))
+      read-over (suc zero) e k h = absurd (omega arith)
+      read-over (suc (suc r)) e k h = end-over p w m x l v h
 
-      pub begin-inside : y ≡ 0 → treeEnd (bitsFrom b p (n - p)) p ≡ endFrom (p + 2) 0 65534
-      unfolding treeEnd endFrom
-      begin-inside h =
-          second
-          ∙ ap (λ t. treeEnd (I ∷ t ∷ bitsFrom b (p + 1 + 1) (n - (p + 1 + 1))) p) (value-O (bitAt b (p + 1)) (omega arith))
-          ∙ ap₂ (λ q r. insideEnd (bitsFrom b q (n - q)) r 0 65534) (let q : p + 1 + 1 ≡ p + 2 = omega arith in q) (let q : suc (suc p) ≡ p + 2 = omega arith in q)
+      read-full : (r : ℕ) → p ≡ at + r → Counted r w m → m < x → openEnd r at p w m ≡ refused (p + 1)
+      unfolding openEnd
+      read-full zero e k h = absurd (omega (arith, value-le (bitAt b p)))
+      read-full (suc zero) e k h = absurd (omega (arith, value-le (bitAt b p)))
+      read-full (suc (suc r)) e k h = end-full p w m x l v h
+
+      read-on : (r : ℕ) → p ≡ at + r → Counted r w m → (w + x ≡ 0 → ⊥) → x ≤ m
+          → (openEnd r at p w m ≡ openEnd (suc r) at (p + 1) (w + 2 * x - 1) (m - x)) × Counted (suc r) (w + 2 * x - 1) (m - x)
+      unfolding openEnd treeEnd endFrom
+      read-on zero e k h g =
+          let one : x ≡ 1 = omega (arith, value-le (bitAt b p)) in
+          (ap₂ treeEnd (bit-here I (value-I (bitAt b p) (λ z. omega arith))) (let q : p ≡ at = omega arith in q), (omega arith, omega arith))
+      read-on (suc zero) e k h g =
+          let none : x ≡ 0 = omega (arith, value-le (bitAt b p)) in (
+            ap (λ s. treeEnd (I ∷ s) at) (bit-here O (value-O (bitAt b p) (omega arith)))
+                ∙ ap (λ i. insideEnd (bitsFrom b (p + 1) (n - (p + 1))) i 0 65534) (let q : suc (suc at) ≡ p + 1 = omega arith in q)
+                ∙ ap₂ (insideEnd (bitsFrom b (p + 1) (n - (p + 1))) (p + 1)) (let q : 0 ≡ w + 2 * x - 1 = omega arith in q) (let q : 65534 ≡ m - x = omega arith in q),
+            omega arith,
+          )
+      read-on (suc (suc r)) e k h g = (end-on p w m x l v h g, omega (arith, value-le (bitAt b p)))
+
+-- ---- a tree that starts after `at` bits, read up to bit p
+
+pub record Open (b : List ℕ) (n at p w m : ℕ) : Type 0 where
+  pub from : at ≤ p
+  pub few : w + m ≤ 65535
+  pub counted : Counted (p - at) w m
+  pub same : treeEnd (bitsFrom b at (n - at)) at ≡ openEnd b n (p - at) at p w m
+
+module _ (b : List ℕ) (n at : ℕ) where
+  pub open-first : (p w m : ℕ) → p ≡ at → w ≡ 0 → m ≡ 65535 → Open b n at p w m
+  unfolding openEnd
+  open-first p w m e f g =
+      let z : p - at ≡ 0 = omega arith in
+      record {
+        from = omega arith;
+        few = omega arith;
+        counted = subst (λ r. Counted r w m) (sym z) (f, g);
+        same = ap (λ q. treeEnd (bitsFrom b q (n - q)) q) (sym e) ∙ ap (λ r. openEnd b n r at p w m) (sym z);
+      }
+
+  module _ (p w m : ℕ) (o : Open b n at p w m) where
+    read : p ≡ at + (p - at)
+    read = let h = o .from in omega arith
+
+    pub open-none : p ≡ n → treeEnd (bitsFrom b at (n - at)) at ≡ refused (n + 1)
+    open-none h = o .same ∙ read-none b n (p - at) at p w m read h
+
+    -- inside it whole bytes may be passed over
+    pub open-few : at + 2 ≤ p → w + m ≤ 65534
+    open-few h = counted-inside (p - at) w m (omega arith) .0 (o .counted)
+
+    pub open-skip : (q v k : ℕ) → at + 2 ≤ p → p ≤ q → v + k ≤ 65534 → endFrom b n p w m ≡ endFrom b n q v k → Open b n at q v k
+    open-skip q v k h l few e =
+        record {
+          from = omega arith;
+          few = omega arith;
+          counted = counted-inside (q - at) v k (omega arith) .1 few;
+          same = o .same ∙ read-inside b n (p - at) at p w m (omega arith) ∙ e ∙ sym (read-inside b n (q - at) at q v k (omega arith));
+        }
+
+    module _ (x : ℕ) (l : p < n) (v : x ≡ value (bitAt b p)) where
+      pub open-wrong : p ≡ at + x → treeEnd (bitsFrom b at (n - at)) at ≡ refused (p + 1)
+      open-wrong h = o .same ∙ read-wrong b n at p w m x l v (p - at) read h
+
+      module _ (right : p ≡ at + x → ⊥) where
+        pub open-over : w + x ≡ 0 → treeEnd (bitsFrom b at (n - at)) at ≡ over (p + 1) (65535 - m)
+        open-over h = o .same ∙ read-over b n at p w m x l v right (p - at) read (o .counted) h
+
+        pub open-full : m < x → treeEnd (bitsFrom b at (n - at)) at ≡ refused (p + 1)
+        open-full h = o .same ∙ read-full b n at p w m x l v right (p - at) read (o .counted) h
+
+        pub open-on : (w + x ≡ 0 → ⊥) → x ≤ m → Open b n at (p + 1) (w + 2 * x - 1) (m - x)
+        open-on h g =
+            let few = o .few in
+            let from = o .from in
+            let bit = value-le (bitAt b p) in
+            let r = read-on b n at p w m x l v right (p - at) read (o .counted) h g in
+            let e : p + 1 - at ≡ suc (p - at) = omega arith in
+            record {
+              from = omega arith;
+              few = omega arith;
+              counted = subst (λ k. Counted k (w + 2 * x - 1) (m - x)) (sym e) (r .1);
+              same = o .same ∙ r .0 ∙ ap (λ k. openEnd b n k at (p + 1) (w + 2 * x - 1) (m - x)) (sym e);
+            }

@@ -9,9 +9,9 @@ use Rattle.meaning.specs.Bytes.{bitsFrom}
 use Rattle.meaning.specs.Scan.{one, place}
 use Rattle.theory.proofs.Packing.{bits-length}
 use Rattle.closing.specs.Ends.{over, refused, treeEnd}
-use Rattle.inside.specs.Ends.{endOf}
-use Rattle.inside.specs.declared.TreeEnd.{TreeEnd}
-use Rattle.inside.specs.declared.TreeEnd.the-variants.{Over, Refused}
+use Rattle.scan.specs.Ends.{endOf}
+use Rattle.scan.specs.declared.TreeEnd.{TreeEnd}
+use Rattle.scan.specs.declared.TreeEnd.the-variants.{Over, Refused}
 use Rattle.closing.proofs.Ends.{over-within, refused-within, one-refused, one-whole, one-past}
 
 module _ (b : List ℕ) (L : ℕ) (end : TreeEnd) (found : endOf end ≡ treeEnd (bitsFrom b 0 (L - 0)) 0) where

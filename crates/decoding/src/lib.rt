@@ -4,7 +4,6 @@ ghost use Rattle.meaning.specs.Answers.{cameTo};
 ghost use Rattle.meaning.specs.Calls.{parentsOfString};
 use answers::done;
 use answers::refuse;
-use inside::TreeEnd;
 use meaning::Answer;
 use meaning::LEFTOVER_SET;
 use meaning::MOST_BITS;
@@ -13,6 +12,7 @@ use meaning::NOT_STRING;
 use meaning::WRONG_SIZE;
 use reading::leftover_set;
 use reading::write_parents;
+use scan::TreeEnd;
 use scan::tree_end;
 
 // The parent list of a string.

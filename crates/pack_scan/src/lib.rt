@@ -7,8 +7,8 @@ ghost use Rattle.meaning.specs.Bytes.{bitsFrom};
 ghost use Rattle.meaning.specs.Packs.{sizes, starts};
 ghost use Rattle.falls.specs.Falls.{Falls};
 ghost use Rattle.pack_scan.specs.Found.{found, foundOf};
-use inside::TreeEnd;
 use noting::note;
+use scan::TreeEnd;
 use scan::tree_end_by;
 
 // What the bits of a pack hold: so many trees, or the bit at which they are refused.
