@@ -14,6 +14,11 @@
 #include <stddef.h>
 #include <stdint.h>
 
+/* The library's sizes have 64 bits on every machine. A call with shorter ones would hand it lists of other lengths. */
+#if SIZE_MAX != 0xFFFFFFFFFFFFFFFFu
+#error "parlaqen: a size must have 64 bits, as in the library; else a call would answer 'done' and do nothing"
+#endif
+
 #ifdef __cplusplus
 extern "C" {
 #endif

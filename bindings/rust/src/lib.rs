@@ -18,6 +18,10 @@
 //! The archive `libparlaqen.a` is linked from the directory that the environment variable `PARLAQEN_LIB_DIR` names
 //! when the crate is built, or else from `target/lib` of the repository, where `tools/archive` puts it.
 
+// The library's sizes have 64 bits on every machine. A call with shorter ones would hand it lists of other lengths.
+#[cfg(not(target_pointer_width = "64"))]
+compile_error!("parlaqen: a size must have 64 bits, as in the library; else a call would answer 'done' and do nothing");
+
 mod calls;
 mod error;
 mod image;
