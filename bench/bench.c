@@ -2,7 +2,7 @@
  *
  *   bench ROUNDS                                 the table
  *   bench STORE CALL SHAPE NODES TIMES           that many calls and nothing else, for a profiler or a counter of
- *                                                instructions; STORE is library, plain_o2 or plain_o3
+ *                                                instructions; STORE is library, plain_o2, faster_o2 or plain_o3
  *
  * Other work on the machine moves a time by far more than the differences looked for. So the contestants take turns in
  * short samples, a ratio is always one of two samples of the same round, and the table has the median of these ratios,
@@ -56,29 +56,31 @@ static const struct row {
     enum call call;
     double target;     /* the most that library / plain C at -O2 should be; 0: none was set */
     int answers_alone; /* less what the same call takes without a question */
+    int named_form;    /* makes sums or a listing, for both of which there is a faster form than the named one */
     enum beside beside;
 } rows[] = {
-    {"`plq_check_image`", CHECK_IMAGE, 1.0, 0, OPEN},
-    {"`plq_ask`, 256 mixed", ASK, 1.0, 0, OPEN_AND_ANSWER},
-    {"the 256 answers alone", ASK, 0, 1, ANSWER},
-    {"`plq_string_of_parents`", STRING_OF_PARENTS, 1.0, 0, NOTHING},
-    {"`plq_parents_of_string`", PARENTS_OF_STRING, 1.0, 0, NOTHING},
-    {"`plq_image_of_parents`", IMAGE_OF_PARENTS, 1.0, 0, SAVE},
-    {"`plq_parents_of_image`", PARENTS_OF_IMAGE, 1.0, 0, NOTHING},
-    {"`plq_split`, 256 trees", SPLIT, 1.5, 0, NOTHING},
-    {"`plq_join`, tree 256", JOIN, 1.5, 0, NOTHING},
-    {"`plq_list`", LIST, 1.5, 0, WALK},
+    {"`plq_check_image`", CHECK_IMAGE, 1.0, 0, 1, OPEN},
+    {"`plq_ask`, 256 mixed", ASK, 1.0, 0, 1, OPEN_AND_ANSWER},
+    {"the 256 answers alone", ASK, 0, 1, 0, ANSWER},
+    {"`plq_string_of_parents`", STRING_OF_PARENTS, 1.0, 0, 0, NOTHING},
+    {"`plq_parents_of_string`", PARENTS_OF_STRING, 1.0, 0, 0, NOTHING},
+    {"`plq_image_of_parents`", IMAGE_OF_PARENTS, 1.0, 0, 1, SAVE},
+    {"`plq_parents_of_image`", PARENTS_OF_IMAGE, 1.0, 0, 1, NOTHING},
+    {"`plq_split`, 256 trees", SPLIT, 1.5, 0, 0, NOTHING},
+    {"`plq_join`, tree 256", JOIN, 1.5, 0, 0, NOTHING},
+    {"`plq_list`", LIST, 1.5, 0, 1, WALK},
 };
 
 enum { ROWS = sizeof rows / sizeof *rows };
 
-/* Who is measured: a store or a peer. Every ratio is the time of the first to that of another. */
+/* Who is measured: a store or a peer. Every ratio of the table is the time of the first to that of another. */
 static const struct contestant {
     const struct store *store;
     const struct peer *peer;
 } contestants[] = {
     {&library, NULL},
     {&plain_o2, NULL},
+    {&faster_o2, NULL},
     {&plain_o3, NULL},
     {NULL, &arrays_peer},
 #ifdef WITH_SDSL
@@ -86,7 +88,7 @@ static const struct contestant {
 #endif
 };
 
-enum { CONTESTANTS = sizeof contestants / sizeof *contestants, LIBRARY = 0, PLAIN_O2 = 1 };
+enum { CONTESTANTS = sizeof contestants / sizeof *contestants, LIBRARY = 0, PLAIN_O2 = 1, FASTER_O2 = 2 };
 
 /* One tree with all that the calls are given. */
 struct tree {
@@ -267,7 +269,7 @@ static void compare_requests(struct comparison *comparison, const struct tree *t
 
 static uint64_t compare_all(struct bed *const beds[KINDS])
 {
-    static const struct store *const stores[] = {&library, &plain_o2, &plain_o3};
+    static const struct store *const stores[] = {&library, &plain_o2, &faster_o2, &plain_o3};
     enum { SMALL_TREES = 60, MOST_SMALL = 300, MANY_DAMAGES = 16, FEW_DAMAGES = 2 };
     uint32_t parents[MOST_SMALL];
     struct comparison comparison;
@@ -416,11 +418,11 @@ static double least(const double *numbers, uint32_t count)
     return found;
 }
 
-/* The median over the rounds of the library's time over a contestant's. */
-static double ratio_to(const struct times *times, size_t contestant)
+/* The median over the rounds of one contestant's time over another's. */
+static double ratio_of(const struct times *times, size_t one, size_t other)
 {
     double ratios[MOST_ROUNDS];
-    for (uint32_t round = 0; round < times->rounds; round++) ratios[round] = times->ns[LIBRARY][round] / times->ns[contestant][round];
+    for (uint32_t round = 0; round < times->rounds; round++) ratios[round] = times->ns[one][round] / times->ns[other][round];
     return median(ratios, times->rounds);
 }
 
@@ -449,6 +451,17 @@ static void print_kind(const struct bed *bed, const char *row)
     printf("| %s | %s, %u nodes | %u |", row, name_of_shape(bed->kind->shape), bed->kind->n, blocks_of(bed));
 }
 
+/* What the named forms of sums and listing cost plain C on one bed. */
+struct cost {
+    double ratio, ns; /* time in the named form over that in the faster one, and the difference of the medians */
+};
+
+static struct cost cost_of(const struct times *times)
+{
+    return (struct cost){ratio_of(times, PLAIN_O2, FASTER_O2),
+                         median(times->ns[PLAIN_O2], times->rounds) - median(times->ns[FASTER_O2], times->rounds)};
+}
+
 /* Answers whether a target was missed. */
 static int print_row(struct bed *bed, const struct row *row, struct times *times)
 {
@@ -458,7 +471,7 @@ static int print_row(struct bed *bed, const struct row *row, struct times *times
     for (uint32_t t = 0; t < bed->kind->turns; t++) listed += bed->trees[t]->listed;
     snprintf(name, sizeof name, row->call == LIST ? "%s, %u nodes" : "%s", row->name, listed / bed->kind->turns);
     print_kind(bed, name);
-    double library_least = least(times->ns[LIBRARY], times->rounds), ratio = ratio_to(times, PLAIN_O2);
+    double library_least = least(times->ns[LIBRARY], times->rounds), ratio = ratio_of(times, LIBRARY, PLAIN_O2);
     int missed = row->target != 0 && ratio >= row->target + 0.005; /* as it is printed */
     print_both(median(times->ns[LIBRARY], times->rounds) / 1000, library_least / 1000, row);
     print_both(ratio, library_least / least(times->ns[PLAIN_O2], times->rounds), row);
@@ -468,7 +481,7 @@ static int print_row(struct bed *bed, const struct row *row, struct times *times
         printf(" %.1f | %s |", row->target, missed ? "missed" : "met");
     for (size_t i = PLAIN_O2 + 1; i < CONTESTANTS; i++) {
         printf(" ");
-        if (times->took_part[i]) print_number(ratio_to(times, i));
+        if (times->took_part[i]) print_number(ratio_of(times, LIBRARY, i));
         printf(" |");
     }
     printf("\n");
@@ -492,10 +505,27 @@ static void print_space(const struct bed *bed)
     printf("\n");
 }
 
+static void print_costs(const struct cost costs[ROWS][KINDS])
+{
+    printf("\nWhat the named forms cost plain C: time of `%s` / time of `%s`, and in brackets the difference in µs.\n\n| call |",
+           plain_o2.name, faster_o2.name);
+    for (size_t k = 0; k < KINDS; k++) printf(" %s, %u |", name_of_shape(kinds[k].shape), kinds[k].n);
+    printf("\n|---|");
+    for (size_t k = 0; k < KINDS; k++) printf("--:|");
+    printf("\n");
+    for (size_t row = 0; row < ROWS; row++) {
+        if (!rows[row].named_form) continue;
+        printf("| %s |", rows[row].name);
+        for (size_t k = 0; k < KINDS; k++) printf(" %.2f (%+.2f) |", costs[row][k].ratio, costs[row][k].ns / 1000);
+        printf("\n");
+    }
+}
+
 static void print_table(uint32_t rounds)
 {
     static struct times times;
     struct bed *beds[KINDS];
+    struct cost costs[ROWS][KINDS];
     int targets = 0, missed = 0;
     times.rounds = rounds;
     for (size_t k = 0; k < KINDS; k++) beds[k] = new_bed(&kinds[k]);
@@ -510,12 +540,14 @@ static void print_table(uint32_t rounds)
         for (size_t k = 0; k < KINDS; k++) {
             missed += print_row(beds[k], &rows[row], &times);
             targets += rows[row].target != 0;
+            costs[row][k] = cost_of(&times);
         }
     for (size_t k = 0; k < KINDS; k++) {
         print_space(beds[k]);
         free_bed(beds[k]);
     }
     printf("\n%d of %d targets missed.\n", missed, targets);
+    print_costs(costs);
 }
 
 /* ---- one call alone ---- */
@@ -525,7 +557,7 @@ static void repeat_call(const char *store, const char *call, const char *shape, 
     static const struct {
         const char *name;
         const struct store *store;
-    } stores[] = {{"library", &library}, {"plain_o2", &plain_o2}, {"plain_o3", &plain_o3}};
+    } stores[] = {{"library", &library}, {"plain_o2", &plain_o2}, {"faster_o2", &faster_o2}, {"plain_o3", &plain_o3}};
     const struct store *the_store = NULL;
     const struct kind *kind = NULL;
     enum call the_call = CALLS;

@@ -1,9 +1,14 @@
 /* The plain C store. Compiled with -DSTORE=name -DNAME='"words"', the object offers `const struct store name`.
  *
- * What it is fast by: block sums in four lanes; the check reads both strings once, eight bytes at a time, and keeps the
- * counts before each word of the current block for the samples; rank is the block's own count and the ones of whole words;
- * select starts at the nearest sample; strings are read by words and bytes while no tree can end in them; the listing
- * keeps one cursor a depth. */
+ * Two things stand here twice, first in the form that document 01 names for the library too, then, where an option asks for
+ * it, in a faster one:
+ *   block sums    one loop over the words of a block; -DSTORE_SUMS_BY_LANES: four such chains side by side
+ *   the listing   calls itself on each child, leaves included; -DSTORE_LIST_SKIPS_LEAVES: a loop that makes no call
+ *
+ * What it is fast by besides: the check reads both strings once, eight bytes at a time, and keeps the counts before each
+ * word of the current block for the samples; rank is the block's own count and the ones of whole words; select starts at
+ * the nearest sample; strings are read by words and bytes while no tree can end in them; the listing keeps one cursor a
+ * depth. */
 #include "store.h"
 
 #include <stdbool.h>
@@ -133,6 +138,21 @@ struct sums {
     uint32_t s, t;
 };
 
+#ifndef STORE_SUMS_BY_LANES
+
+/* One chain of additions, word by word, as the rule has it. */
+static struct sums sums_of(const uint8_t *block, uint32_t number)
+{
+    struct sums all = {number, 0};
+    for (uint32_t at = 0; at < PAYLOAD; at += 4) {
+        all.s += load32(block + at);
+        all.t += all.s;
+    }
+    return all;
+}
+
+#else
+
 typedef uint32_t lanes __attribute__((vector_size(16)));
 
 /* Four chains of additions side by side; `number` and what one chain alone would have added come in behind the loop. */
@@ -152,6 +172,8 @@ static struct sums sums_of(const uint8_t *block, uint32_t number)
     }
     return all;
 }
+
+#endif
 
 static void seal_block(uint8_t *block, uint32_t number)
 {
@@ -490,6 +512,72 @@ static uint32_t ones_between(const uint8_t *string, size_t from, size_t to)
     return count + ones(load_bits(string + 8 * word) >> 1 >> (63 - to % 64)) - before;
 }
 
+/* What a listing is written from. Nodes of one depth below the listed node have numbers in a row, and come in this order:
+ * the next one of each depth is enough. */
+struct walk {
+    uint8_t r1[STRING_BLOCKS * STRING_BYTES], r0[STRING_BLOCKS * STRING_BYTES];
+    uint32_t next[LEVELS];
+};
+
+static bool has_children(const struct walk *walk, uint32_t x)
+{
+    return bit_at(walk->r0, x - 1);
+}
+
+static bool ends_siblings(const struct walk *walk, uint32_t x)
+{
+    return bit_at(walk->r1, x - 1);
+}
+
+#ifndef STORE_LIST_SKIPS_LEAVES
+
+/* Writes x and its depth at the front of `pairs` and then, by a call of itself for each child, the child's listing behind
+ * what is written. Answers how many numbers that were. */
+static size_t write_from(struct walk *walk, uint32_t x, uint32_t depth, uint32_t *pairs)
+{
+    size_t filled = 2;
+    pairs[0] = x;
+    pairs[1] = depth;
+    if (has_children(walk, x)) {
+        uint32_t child = walk->next[depth + 1]; /* no call below touches this one */
+        do filled += write_from(walk, child, depth + 1, pairs + filled);
+        while (!ends_siblings(walk, child++));
+        walk->next[depth + 1] = child;
+    }
+    return filled;
+}
+
+static void write_listing(struct walk *walk, uint32_t *pairs)
+{
+    write_from(walk, walk->next[0], 0, pairs);
+}
+
+#else
+
+/* From node to node, down and up again, without a call for any of them. Above x, `next` has x's parent and what is above it,
+ * to come back to. */
+static void write_listing(struct walk *walk, uint32_t *pairs)
+{
+    uint32_t *next = walk->next, depth = 0, x = next[0];
+    for (;;) {
+        *pairs++ = x;
+        *pairs++ = depth;
+        if (has_children(walk, x)) {
+            next[depth++] = x;
+            x = next[depth];
+            continue;
+        }
+        while (depth > 0 && ends_siblings(walk, x)) {
+            next[depth--] = x + 1;
+            x = next[depth];
+        }
+        if (depth == 0) return;
+        x++;
+    }
+}
+
+#endif
+
 static plq_answer plain_list(const uint8_t *image, size_t nbytes, uint32_t node, uint32_t *pairs, size_t room)
 {
     struct image im;
@@ -497,33 +585,22 @@ static plq_answer plain_list(const uint8_t *image, size_t nbytes, uint32_t node,
     if (checked.code != PLQ_DONE) return checked;
     if (node < 1 || node > im.n) return refused(PLQ_NOT_ALLOWED, 1);
 
-    uint8_t r1[STRING_BLOCKS * STRING_BYTES], r0[STRING_BLOCKS * STRING_BYTES];
-    gather(&im.r1, r1);
-    gather(&im.r0, r0);
-    /* nodes of one depth below `node` have numbers in a row, and come in this order: the next one of each depth is enough */
-    uint32_t next[LEVELS], low = node, high = node, depth = 0;
+    struct walk walk;
+    gather(&im.r1, walk.r1);
+    gather(&im.r0, walk.r0);
+    uint32_t low = node, high = node, depth = 0;
     size_t count = 0;
     while (low <= high) {
         if (depth == LEVELS) return refused(PLQ_TOO_DEEP, low);
-        next[depth++] = low;
+        walk.next[depth++] = low;
         count += high - low + 1;
-        uint32_t run = 1 + ones_left(&im.r0, low), runs = ones_between(r0, low - 1, high);
+        uint32_t run = 1 + ones_left(&im.r0, low), runs = ones_between(walk.r0, low - 1, high);
         low = place_of(&im.r1, run) + 1;
         high = place_of(&im.r1, run + runs);
     }
     if (room < 2 * count) return refused(PLQ_NO_ROOM, 0);
 
-    depth = 0;
-    for (size_t i = 0; i < count; i++) {
-        uint32_t x = next[depth]++;
-        pairs[2 * i] = x;
-        pairs[2 * i + 1] = depth;
-        if (bit_at(r0, x - 1)) {
-            depth++;
-        } else {
-            while (depth > 0 && bit_at(r1, next[depth] - 2)) depth--; /* the last one listed there ends its siblings */
-        }
-    }
+    write_listing(&walk, pairs);
     return done(count, 0);
 }
 

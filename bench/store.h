@@ -25,7 +25,8 @@ struct store {
     prefix##string_of_parents, prefix##parents_of_string, prefix##image_of_parents, prefix##parents_of_image, \
     prefix##check_image, prefix##ask, prefix##split, prefix##join, prefix##list
 
-/* store.c is compiled once for each of these, with other flags each time, so that one program holds them all. */
-extern const struct store plain_o2, plain_o3;
+/* store.c is compiled once for each of these, with other flags each time, so that one program holds them all. The plain ones
+ * have the sums and the listing in the form that is named for the library too; faster_o2 has both in a faster one. */
+extern const struct store plain_o2, faster_o2, plain_o3;
 
 #endif
