@@ -71,6 +71,9 @@ fn inputs() -> Vec<(String, Vec<u8>)> {
             inputs.push((format!("{length} zeros with right sums"), zeros));
         }
     }
+    let mut longer = image(Shape::Path, 65_535);
+    longer.push(0);
+    inputs.push(("the largest image and a byte".to_string(), longer));
     let mut damaged = image_of_t();
     damaged[3 * 512 + 100] ^= 4;
     inputs.push(("T with a bit changed in block 3".to_string(), damaged.clone()));
