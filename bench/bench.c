@@ -1,6 +1,7 @@
-/* Times every call of the library beside the plain C store and the peers, on the same trees, and prints one table of ratios.
+/* Times every call of the library beside the plain C store and the peers, on the same trees, and prints one table of ratios,
+ * and a short one of what the named forms of sums and listing cost plain C.
  *
- *   bench ROUNDS                                 the table
+ *   bench ROUNDS                                 the tables
  *   bench STORE CALL SHAPE NODES TIMES           that many calls and nothing else, for a profiler or a counter of
  *                                                instructions; STORE is library, plain_o2, faster_o2 or plain_o3
  *
