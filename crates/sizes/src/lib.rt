@@ -24,9 +24,9 @@ pub fn wrong_to_split(bytes: usize, bits: usize, trees: usize) -> bool
     false
 }
 
-// Is the number of bytes, bits or trees of a pack, or of nodes of a tree that is to be joined to it, wrong?
-pub fn wrong_to_join(bytes: usize, bits: usize, trees: usize, nodes: usize) -> bool
-    ensures { λ r. ⌜ ToldToJoin r bytes bits trees nodes ⌝ }
+// Is the number of bytes, earlier bits or trees of a pack, or of nodes of a tree that is to be joined to it, wrong?
+pub fn wrong_to_join(bytes: usize, earlier: usize, trees: usize, nodes: usize) -> bool
+    ensures { λ r. ⌜ ToldToJoin r bytes earlier trees nodes ⌝ }
 {
     if nodes < 1 {
         return true;
@@ -34,16 +34,16 @@ pub fn wrong_to_join(bytes: usize, bits: usize, trees: usize, nodes: usize) -> b
     if MOST_NODES < nodes {
         return true;
     }
-    if MOST_BITS < bits {
+    if MOST_BITS < earlier {
         return true;
     }
-    if bytes < (bits + 7) / 8 {
+    if bytes < (earlier + 7) / 8 {
         return true;
     }
     if MOST_TREES - 1 < trees {
         return true;
     }
-    let longer = bits + (2 * nodes + 1);
+    let longer = earlier + (2 * nodes + 1);
     if MOST_BITS < longer {
         return true;
     }

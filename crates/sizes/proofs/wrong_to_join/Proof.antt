@@ -9,16 +9,16 @@ returns : tie.Need-returns
 returns c = wrong-few _ _ _ _ (c .if1 .taken)
 
 returns-2 : tie.Need-returns-2
-returns-2 c = wrong-many _ _ _ _ (c .if2 .taken)
+returns-2 c = wrong-many _ _ _ _ (omega (arith, c .if2 .taken))
 
 returns-3 : tie.Need-returns-3
-returns-3 c = wrong-long _ _ _ _ (c .if3 .taken)
+returns-3 c = wrong-long _ _ _ _ (omega (arith, c .if3 .taken))
 
 add-if4 : tie.Need-add-if4
 add-if4 c = search needs
 
 returns-4 : tie.Need-returns-4
-returns-4 c = wrong-bytes _ _ _ _ (c .if4 .taken)
+returns-4 c = wrong-bytes _ _ _ _ (omega (arith, c .if4 .taken))
 
 sub-if5 : tie.Need-sub-if5
 sub-if5 c = search needs

@@ -1,11 +1,12 @@
 -- `sizes::wrong_to_split` meets its contract.
 use borrow.Author.Needs.{needs}
+use native.Mathlib.Omega.{arith}
 use Rattle.sizes.proofs.ToSplit.{wrong-long, wrong-bytes, wrong-trees}
 use Rattle.sizes.proofs.wrong_to_split.Statement.{statement}
 use Rattle.sizes.proofs.wrong_to_split.Tie as tie
 
 returns : tie.Need-returns
-returns c = wrong-long _ _ _ (c .if1 .taken)
+returns c = wrong-long _ _ _ (omega (arith, c .if1 .taken))
 
 add-if2 : tie.Need-add-if2
 add-if2 c = search needs
