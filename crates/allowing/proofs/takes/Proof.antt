@@ -1,5 +1,6 @@
 -- `allowing::takes` meets its contract.
 use mathlib.Core.Path.{sym, _∙_}
+use native.Mathlib.Omega.{arith}
 use Rattle.allowing.proofs.Signs.{zero-size}
 use Rattle.allowing.proofs.Allowing.{kind-none, kind-beyond, kind-plain}
 use borrow.Author.Needs.{needs}
@@ -7,10 +8,10 @@ use Rattle.allowing.proofs.takes.Statement.{statement}
 use Rattle.allowing.proofs.takes.Tie as tie
 
 returns : tie.Need-returns
-returns c = sym (kind-none _ _ (c .if1 .taken))
+returns c = sym (kind-none (c .before .args .kind) _ (omega (arith, c .if1 .taken)))
 
 returns-2 : tie.Need-returns-2
-returns-2 c = sym (kind-beyond _ _ (c .if2 .taken))
+returns-2 c = sym (kind-beyond (c .before .before .args .kind) _ (omega (arith, c .if2 .taken)))
 
 returns-3 : tie.Need-returns-3
 returns-3 c = search needs
