@@ -1,23 +1,27 @@
 -- The first row that holds, and what a call comes to by it.
 use mathlib.Core.Path.{_≡_, refl, sym, ap, ap₂, _∙_}
-use mathlib.Core.Bool.{Bool, true, false, cond}
+use mathlib.Core.Bool.{Bool, true, false, cond, not}
 use mathlib.Core.List.{List, [], _∷_, _++_}
 use Prim.Native.Nat.{ℕ}
 use native.Mathlib.Omega.{arith}
 use borrow.Author.Tests.{lt-ltb, le-ltb}
+use lib.Dec.{ltb, eqb}
 use lib.ListN.{length}
+use Rattle.meaning.specs.Strings.{Bit}
 use Rattle.meaning.specs.Bytes.{bitsFrom, leftover}
 use Rattle.meaning.specs.Scan.{many, place}
 use Rattle.meaning.specs.Packs.{sizes}
 use Rattle.meaning.specs.declared.Answer.{Answer}
-use Rattle.meaning.specs.Answers.{Row, refusedWith, cameTo, settle}
+use Rattle.meaning.specs.Answers.{Row, _at_when_, refusedWith, cameTo, settle}
 use Rattle.theory.specs.Rows.{NoneHolds}
 use Rattle.theory.proofs.Settled.{unequal, equal, settle-here, settle-on}
 use Rattle.theory.proofs.Codes.{not-unequal}
-use Rattle.pack_scan.specs.Found.{trees, refused, found}
+use Rattle.pack_scan.specs.declared.Pack.{Pack}
+use Rattle.pack_scan.specs.declared.Pack.the-variants as Pack
+use Rattle.pack_scan.specs.Found.{trees, found, foundOf}
 use Rattle.pack_scan.proofs.Telling.{found-trees, found-refused}
 use Rattle.holding.specs.declared.Held.the-variants.{Trees, Refused}
-use Rattle.holding.specs.Rows.{packRows, firstOf}
+use Rattle.holding.specs.Rows.{packRows, firstOf, alone, over, placeIn, treesIn}
 
 pub clash : {X : Type 0} {c p : ℕ} → Refused c p ≡ Trees → X
 clash e = let z : _≡_ {A = ℕ} 0 1 = cc in absurd (omega arith)
@@ -68,41 +72,46 @@ settle-past before rest a after (r ∷ rs) n = settle-on before a after r (rs ++
 
 -- ---- the rows of a pack
 
+-- a row and those below it
+first-over : (r : Row) (rs : List Row) → over (alone (r .holds) (r .code) (r .place)) (firstOf rs) ≡ firstOf (r ∷ rs)
+first-over r rs = go (r .holds) refl
+  where
+    go : (b : Bool) → r .holds ≡ b → over (alone b (r .code) (r .place)) (firstOf rs) ≡ firstOf (r ∷ rs)
+    go true e = sym (first-here r rs e)
+    go false e = sym (first-on r rs e)
+
 module _ (bytes : List ℕ) (L k : ℕ) where
-  pub held-leftover : leftover bytes L ≡ true → Refused 5 0 ≡ firstOf (packRows bytes L k)
+  abbrev bits : List Bit
+  bits = bitsFrom bytes 0 L
+
+  abbrev string : Row
+  string = 4 at place many bits when ltb 0 (place many bits)
+
+  abbrev count : Row
+  count = 10 at length (sizes bits) when not (eqb (length (sizes bits)) k)
+
+  -- the rows of codes 4 and 10, by what the scan found
+  scanned : (pack : Pack) → foundOf pack ≡ found bits
+      → over (alone (not (eqb (placeIn pack) 0)) 4 (placeIn pack)) (alone (not (eqb (treesIn pack) k)) 10 (treesIn pack)) ≡ firstOf (string ∷ count ∷ [])
+  unfolding firstOf
+  scanned (Pack.Refused x) e =
+      let w = found-refused bits e in
+      ap (λ b. over (alone b 4 x) (alone (not (eqb 0 k)) 10 0)) (unequal x 0 (λ z. omega (arith, w .1)))
+      ∙ ap (λ p. Refused 4 p) (sym (w .0))
+      ∙ sym (first-here string (count ∷ []) (lt-ltb 0 (place many bits) (omega (arith, w .0, w .1))))
+  scanned (Pack.Trees n) e =
+      let w = found-trees bits e in
+      ap (λ j. alone (not (eqb j k)) 10 j) (sym (w .1))
+      ∙ sym (first-on string (count ∷ []) (le-ltb 0 (place many bits) (omega (arith, w .0))))
+
+  pub held : (pack : Pack) → foundOf pack ≡ found bits
+      → over (alone (leftover bytes L) 5 0) (over (alone (not (eqb (placeIn pack) 0)) 4 (placeIn pack)) (alone (not (eqb (treesIn pack) k)) 10 (treesIn pack)))
+      ≡ firstOf (packRows bytes L k)
   unfolding packRows
-  held-leftover e = sym (first-here _ _ e)
+  held pack e = ap (over (alone (leftover bytes L) 5 0)) (scanned pack e) ∙ first-over (5 at 0 when leftover bytes L) (string ∷ count ∷ [])
 
-  module _ (clean : leftover bytes L ≡ false) where
-    pub held-refused : {x : ℕ} → refused x ≡ found (bitsFrom bytes 0 L) → Refused 4 x ≡ firstOf (packRows bytes L k)
-    unfolding packRows
-    held-refused e =
-        let w = found-refused (bitsFrom bytes 0 L) e in
-        ap (λ p. Refused 4 p) (sym (w .0))
-        ∙ sym (first-on _ _ clean ∙ first-here _ _ (lt-ltb 0 (place many (bitsFrom bytes 0 L)) (omega (arith, w .0, w .1))))
-
-    module _ {n : ℕ} (e : trees n ≡ found (bitsFrom bytes 0 L)) where
-      good : place many (bitsFrom bytes 0 L) ≡ 0
-      good = found-trees (bitsFrom bytes 0 L) e .0
-
-      count : length (sizes (bitsFrom bytes 0 L)) ≡ n
-      count = found-trees (bitsFrom bytes 0 L) e .1
-
-      pub held-other : (n ≡ k → ⊥) → Refused 10 n ≡ firstOf (packRows bytes L k)
-      unfolding packRows
-      held-other d =
-          ap (λ p. Refused 10 p) (sym count)
-          ∙ sym (first-on _ _ clean
-          ∙ first-on _ _ (le-ltb 0 (place many (bitsFrom bytes 0 L)) (omega (arith, good)))
-          ∙ first-here _ _ (unequal (length (sizes (bitsFrom bytes 0 L))) k (λ q. d (sym count ∙ q))))
-
-      pub held-trees : n ≡ k → Trees ≡ firstOf (packRows bytes L k)
-      unfolding packRows
-      held-trees same =
-          sym (first-on _ _ clean
-          ∙ first-on _ _ (le-ltb 0 (place many (bitsFrom bytes 0 L)) (omega (arith, good)))
-          ∙ first-on _ _ (equal (length (sizes (bitsFrom bytes 0 L))) k (count ∙ same))
-          ∙ first-none)
+  pub held-trees : leftover bytes L ≡ false → {n : ℕ} → trees n ≡ found bits → n ≡ k → Trees ≡ firstOf (packRows bytes L k)
+  held-trees clean {n} e same = sym (ap₂ (λ l d. over (alone l 5 0) (alone d 10 n)) clean (equal n k same)) ∙ held (Pack.Trees n) e
 
   pub held-count : NoneHolds (packRows bytes L k) → length (sizes (bitsFrom bytes 0 L)) ≡ k
   unfolding packRows

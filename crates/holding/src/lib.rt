@@ -5,7 +5,7 @@ ghost use lib.ListN.{length};
 ghost use lib.Seq.{sets};
 ghost use Rattle.meaning.specs.Bytes.{bitsFrom};
 ghost use Rattle.meaning.specs.Packs.{sizes, starts};
-ghost use Rattle.holding.specs.Rows.{firstOf, packRows};
+ghost use Rattle.holding.specs.Rows.{alone, firstOf, over, packRows, placeIn, treesIn};
 ghost use Rattle.holding.specs.declared.Held.the-variants.{Trees};
 ghost use Rattle.pack_scan.specs.Found.{found, foundOf};
 use meaning::LEFTOVER_SET;
@@ -34,6 +34,46 @@ pub enum Held {
     Refused { code: u32, place: u32 },
 }
 
+// A row of the table by itself.
+fn row(holds: bool, code: u32, place: u32) -> Held
+    ensures { λ r. ⌜ r ≡ alone holds code place ⌝ }
+{
+    if holds {
+        return Held::Refused { code, place };
+    }
+    Held::Trees
+}
+
+// Of two rows, the upper one wins.
+fn upper(first: Held, second: Held) -> Held
+    ensures { λ r. ⌜ r ≡ over first second ⌝ }
+{
+    match first {
+        Held::Refused { code, place } => Held::Refused { code, place },
+        Held::Trees => second,
+    }
+}
+
+// The bit at which a pack is refused: 0 if it is not.
+fn place_in(pack: Pack) -> u32
+    ensures { λ r. ⌜ r ≡ placeIn pack ⌝ }
+{
+    match pack {
+        Pack::Refused(place) => place,
+        Pack::Trees(_) => 0,
+    }
+}
+
+// How many trees a pack holds: 0 if it is refused.
+fn trees_in(pack: Pack) -> u32
+    ensures { λ r. ⌜ r ≡ treesIn pack ⌝ }
+{
+    match pack {
+        Pack::Refused(_) => 0,
+        Pack::Trees(found) => found,
+    }
+}
+
 // Do the first n bits hold so many trees? If they do, their first bits and node counts are noted as the scan notes them.
 pub fn trees_held(b: &[u8], n: usize, trees: usize, firsts: &mut [u32], counts: &mut [u32]) -> Held
     requires { ⌜ n ≤ 8 * length (now b) ⌝ }
@@ -43,28 +83,14 @@ pub fn trees_held(b: &[u8], n: usize, trees: usize, firsts: &mut [u32], counts: 
     ensures { λ r. ⌜ (r ≡ Trees → now (firsts .exit) ≡ sets (now (firsts .entry)) 0 (starts (bitsFrom (now (b .entry)) 0 n))) ⌝ }
     ensures { λ r. ⌜ (r ≡ Trees → now (counts .exit) ≡ sets (now (counts .entry)) 0 (sizes (bitsFrom (now (b .entry)) 0 n))) ⌝ }
 {
-    if leftover_set(b, n) {
-        return Held::Refused {
-            code: LEFTOVER_SET,
-            place: 0,
-        };
-    }
+    let leftover = row(leftover_set(b, n), LEFTOVER_SET, 0);
     let pack = scan_pack(b, n, firsts, counts);
-    match pack {
-        Pack::Refused(place) => Held::Refused {
-            code: NOT_STRING,
-            place: place,
-        },
-        Pack::Trees(found) => {
-            if found != trees as u32 {
-                return Held::Refused {
-                    code: OTHER_TREES,
-                    place: found,
-                };
-            }
-            Held::Trees
-        }
-    }
+    let place = place_in(pack);
+    let string = row(place != 0, NOT_STRING, place);
+    let found = trees_in(pack);
+    let wanted = trees as u32;
+    let count = row(found != wanted, OTHER_TREES, found);
+    upper(leftover, upper(string, count))
 }
 
 // The same, where nobody asks where the trees begin and how large they are.

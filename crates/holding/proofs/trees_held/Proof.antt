@@ -1,28 +1,42 @@
 -- `holding::trees_held` meets its contract.
-use mathlib.Core.Path.{sym, ap, _∙_}
+use mathlib.Core.Path.{ap, ap₂, _∙_}
+use mathlib.Core.Bool.{not}
 use borrow.Author.Needs.{needs}
-use Rattle.pack_scan.specs.Found.{foundOf}
-use Rattle.holding.proofs.Rows.{clash, held-leftover, held-refused, held-other, held-trees}
+use lib.Dec.{eqb}
+use Rattle.holding.specs.Rows.{alone, over}
+use Rattle.holding.proofs.Rows.{held}
 use Rattle.holding.proofs.trees_held.Statement.{statement}
 use Rattle.holding.proofs.trees_held.Tie as tie
 
 leftover-set-requires : tie.Need-leftover-set-requires
 leftover-set-requires c κs = search needs
 
-returns : tie.Need-returns
-returns c = (held-leftover _ _ _ (sym (c .before .leftover-set .ensures) ∙ c .if1 .taken), (λ e. clash e, λ e. clash e))
+row-requires : tie.Need-row-requires
+row-requires c κs = search needs
 
 scan-pack-requires : tie.Need-scan-pack-requires
 scan-pack-requires c κs = search needs
 
-enum-known-pack : tie.Need-enum-known-pack
-enum-known-pack c = search needs
+place-in-requires : tie.Need-place-in-requires
+place-in-requires c κs = search needs
 
-enum-known-pack-2 : tie.Need-enum-known-pack-2
-enum-known-pack-2 c = search needs
+row-requires-2 : tie.Need-row-requires-2
+row-requires-2 c κs = search needs
 
-cast-if2 : tie.Need-cast-if2
-cast-if2 c = search needs
+trees-in-requires : tie.Need-trees-in-requires
+trees-in-requires c κs = search needs
+
+cast-wanted : tie.Need-cast-wanted
+cast-wanted c = search needs
+
+row-requires-3 : tie.Need-row-requires-3
+row-requires-3 c κs = search needs
+
+upper-requires : tie.Need-upper-requires
+upper-requires c κs = search needs
+
+upper-requires-2 : tie.Need-upper-requires-2
+upper-requires-2 c κs = search needs
 
 same-length : tie.Need-same-length
 same-length c = search needs
@@ -30,53 +44,37 @@ same-length c = search needs
 same-length-2 : tie.Need-same-length-2
 same-length-2 c = search needs
 
-returns-2 : tie.Need-returns-2
-returns-2 c =
-    let p = c .before .before in
-    let e = p .before .before .before .before .before .before .before .before .before in
-    (held-other _ _ _ (sym (e .before .leftover-set .ensures) ∙ e .if1 .left) (sym (ap foundOf (p .pack2 .given .1)) ∙ p .before .before .before .before .before .before .scan-pack .ensures .0) (c .if2 .taken), (λ e. clash e, λ e. clash e))
-
-same-length-3 : tie.Need-same-length-3
-same-length-3 c = search needs
-
-same-length-4 : tie.Need-same-length-4
-same-length-4 c = search needs
-
-returns-3 : tie.Need-returns-3
-returns-3 c =
-    let p = c .before in
-    let e = p .before .before .before .before .before .before .before .before .before in
-    (held-refused _ _ _ (sym (e .before .leftover-set .ensures) ∙ e .if1 .left) (sym (ap foundOf (p .pack .given .1)) ∙ p .before .before .before .before .before .before .scan-pack .ensures .0), (λ e. clash e, λ e. clash e))
-
-same-length-5 : tie.Need-same-length-5
-same-length-5 c = search needs
-
-same-length-6 : tie.Need-same-length-6
-same-length-6 c = search needs
-
-returns-4 : tie.Need-returns-4
-returns-4 c =
-    let p = c .before .before in
-    let e = p .before .before .before .before .before .before .before .before .before in
-    let s = p .before .before .before .before .before .before .scan-pack .ensures in
-    (held-trees _ _ _ (sym (e .before .leftover-set .ensures) ∙ e .if1 .left) (sym (ap foundOf (p .pack2 .given .1)) ∙ s .0) (c .if2 .left), (λ q. s .1 .0, λ q. s .1 .1))
+returns : tie.Need-returns
+returns c =
+    let n = c .before .before in
+    let p = n .before .before .before in
+    let s = p .before .before .before .before .before in
+    let l = s .before .before .before in
+    let a = l .before .before .before .before .before .args in
+    let leftover = l .row .ensures ∙ ap (λ b. alone b 5 0) (l .before .leftover-set .ensures) in
+    let string = n .before .before .row2 .ensures ∙ ap (λ x. alone (not (eqb x 0)) 4 x) (p .place-in .ensures) in
+    let count = n .row3 .ensures ∙ ap (λ x. alone (not (eqb x (a .trees))) 10 x) (n .before .trees-in .ensures) in
+    let scan = s .scan-pack .ensures in (
+      c .upper2 .ensures
+          ∙ ap₂ over leftover (c .before .upper .ensures ∙ ap₂ over string count)
+          ∙ held (a .b .now) (a .n) (a .trees) (s .scan-pack .result) (scan .0),
+      (λ e. scan .1 .0, λ e. scan .1 .1),
+    )
 
 pub trees-held-spec : {M : Type 1} → statement M
 trees-held-spec =
     tie.close
     (tie.spec
     leftover-set-requires
-    returns
+    row-requires
     scan-pack-requires
-    enum-known-pack
-    enum-known-pack-2
-    cast-if2
+    place-in-requires
+    row-requires-2
+    trees-in-requires
+    cast-wanted
+    row-requires-3
+    upper-requires
+    upper-requires-2
     same-length
     same-length-2
-    returns-2
-    same-length-3
-    same-length-4
-    returns-3
-    same-length-5
-    same-length-6
-    returns-4)
+    returns)
