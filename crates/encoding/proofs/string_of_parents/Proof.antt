@@ -47,7 +47,12 @@ refuse-requires-4 : tie.Need-refuse-requires-4
 refuse-requires-4 c κs = search needs
 
 returns-4 : tie.Need-returns-4
-returns-4 c = let e = sym (c .before .before .before .bad-entry .ensures) ∙ c .before .before .if3 .left in let g = c .before .before .before .before .before .if1 .left in ap (λ r. cameTo r (c .before .before .before .before .before .before .before .before .args .bytes .now)) (c .refuse4 .ensures) ∙ string-room _ _ g (c .before .before .before .before .if2 .left) e (good-parents _ g e) (c .before .if4 .taken)
+returns-4 c =
+    let a = c .before .before .before .before .before .before .before .before .args in
+    let e = sym (c .before .before .before .bad-entry .ensures) ∙ c .before .before .if3 .left in
+    let g = c .before .before .before .before .before .if1 .left in
+    ap (λ r. cameTo r (a .bytes .now)) (c .refuse4 .ensures)
+    ∙ string-room (a .parents .now) (a .bytes .now) g (c .before .before .before .before .if2 .left) e (good-parents _ g e) (omega (arith, c .before .if4 .taken))
 
 write-string-requires : tie.Need-write-string-requires
 write-string-requires c κs = search needs

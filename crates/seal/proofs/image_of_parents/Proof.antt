@@ -22,7 +22,9 @@ refuse-requires-2 : tie.Need-refuse-requires-2
 refuse-requires-2 c κs = search needs
 
 returns-2 : tie.Need-returns-2
-returns-2 c = ap (λ r. cameTo r (c .before .before .before .before .before .args .image .now)) (c .refuse2 .ensures) ∙ image-many _ _ (c .before .if2 .taken)
+returns-2 c =
+    let a = c .before .before .before .before .before .args in
+    ap (λ r. cameTo r (a .image .now)) (c .refuse2 .ensures) ∙ image-many (a .parents .now) (a .image .now) (omega (arith, c .before .if2 .taken))
 
 bad-entry-requires : tie.Need-bad-entry-requires
 bad-entry-requires c κs = search needs
