@@ -45,7 +45,8 @@ bad-entry-requires c κs = let z = sized (c .before .before .before .before) in 
 cast-refuse : tie.Need-cast-refuse
 cast-refuse c =
     let s = c .before .before .before .before .before .before in
-    omega (arith, c .before .bad-entry .ensures, sized s .most, bad-within (s .before .before .before .before .args .parents .now) (sized s .some))
+    let z = sized s in
+    omega (arith, c .before .bad-entry .ensures, bad-within (s .before .before .before .before .args .parents .now) (z .some))
 
 refuse-requires-3 : tie.Need-refuse-requires-3
 refuse-requires-3 c κs = search needs
@@ -79,9 +80,13 @@ same-length-2 c = search needs
 returns-3 : tie.Need-returns-3
 returns-3 c =
     let t = c .before .before .before .before in
-    let z = sized (t .before .before .before .before) in
+    let s = t .before .before .before .before in
+    let a = s .before .before .before .before .args in
+    let z = sized s in
     let g = sym (c .before .before .before .bad-entry .ensures) ∙ c .before .before .if2 .left in
-    answered (c .refuse4 .ensures) (join-room _ _ _ _ z (sym (t .enum-told .given .1) ∙ t .before .before .holds-trees .ensures) g (good-parents _ (z .some) g) (c .before .if3 .taken))
+    answered (c .refuse4 .ensures)
+    (join-room (a .pack .now) (a .bits) (a .trees) (a .parents .now) z (sym (t .enum-told .given .1) ∙ t .before .before .holds-trees .ensures) g (good-parents _ (z .some) g)
+    (omega (arith, c .before .if3 .taken)))
 
 write-string-requires : tie.Need-write-string-requires
 write-string-requires c κs =

@@ -13,7 +13,7 @@ refuse-requires : tie.Need-refuse-requires
 refuse-requires c κs = search needs
 
 returns : tie.Need-returns
-returns c = let a = c .before .before .before .before .args in ap (λ r. cameTo r (a .answers .now)) (c .refuse .ensures) ∙ asked-size (a .b .now) (a .questions .now) (a .answers .now) (not-threes (a .questions .now) (c .before .if1 .taken))
+returns c = let a = c .before .before .before .before .args in ap (λ r. cameTo r (a .answers .now)) (c .refuse .ensures) ∙ asked-size (a .b .now) (a .questions .now) (a .answers .now) (not-threes (a .questions .now) (λ e. c .before .if1 .taken (omega (arith, e))))
 
 refuse-requires-2 : tie.Need-refuse-requires-2
 refuse-requires-2 c κs = search needs

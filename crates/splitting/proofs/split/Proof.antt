@@ -55,7 +55,11 @@ refuse-requires-4 c κs = search needs
 returns-3 : tie.Need-returns-3
 returns-3 c =
     let p = c .before .before .before in
-    answered (c .refuse4 .ensures) (split-sizes _ _ _ _ _ (sized (p .before .before .before .before .before .before .before)) (sym (p .enum-told .given .1) ∙ p .before .before .before .before .trees-held .ensures .0) (c .before .if3 .taken))
+    let s = p .before .before .before .before .before .before .before in
+    let a = s .before .before .before .before .before .args in
+    answered (c .refuse4 .ensures)
+    (split-sizes (a .bytes .now) (a .bits) (a .trees) (a .firsts .now) (a .counts .now) (sized s) (sym (p .enum-told .given .1) ∙ p .before .before .before .before .trees-held .ensures .0)
+    (omega (arith, c .before .before .if2 .left, c .before .if3 .taken)))
 
 slice-aggregate-hand-over : tie.Need-slice-aggregate-hand-over
 slice-aggregate-hand-over c = search needs
