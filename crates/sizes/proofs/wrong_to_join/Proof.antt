@@ -6,7 +6,7 @@ use Rattle.sizes.proofs.wrong_to_join.Statement.{statement}
 use Rattle.sizes.proofs.wrong_to_join.Tie as tie
 
 returns : tie.Need-returns
-returns c = wrong-few _ _ _ _ (c .if1 .taken)
+returns c = wrong-few _ _ _ _ (omega (arith, c .if1 .taken))
 
 returns-2 : tie.Need-returns-2
 returns-2 c = wrong-many _ _ _ _ (omega (arith, c .if2 .taken))
