@@ -3,7 +3,8 @@
  * Two things stand here twice, first in the form that document 01 names for the library too, then, where an option asks for
  * it, in a faster one:
  *   block sums    one loop over the words of a block; -DSTORE_SUMS_BY_LANES: four such chains side by side
- *   the listing   calls itself on each child, leaves included; -DSTORE_LIST_SKIPS_LEAVES: a loop that makes no call
+ *   the listing   calls itself on each child, leaves included, and reads the bits of a node where they stand in the image;
+ *                 -DSTORE_LIST_SKIPS_LEAVES: a loop that makes no call, over a copy of both strings without gaps
  *
  * What it is fast by besides: the check reads both strings once, eight bytes at a time, and keeps the counts before each
  * word of the current block for the samples; rank is the block's own count and the ones of whole words; select starts at
@@ -497,77 +498,58 @@ static plq_answer plain_ask(const uint8_t *image, size_t nbytes, const int32_t *
 
 /* ---- listings ---- */
 
+/* Nodes of one depth below the listed node have numbers in a row, and come in this order: `next` has the next one of each
+ * depth, and no more is needed to write the listing. */
+
+#ifndef STORE_LIST_SKIPS_LEAVES
+
+/* Writes x and its depth at the front of `pairs` and then, by a call of itself for each child, the child's listing behind
+ * what is written. Answers how many numbers that were. A bit of a node is read where it stands in the image, as the library
+ * reads it. */
+static size_t write_from(const struct image *im, uint32_t *next, uint32_t x, uint32_t depth, uint32_t *pairs)
+{
+    size_t filled = 2;
+    pairs[0] = x;
+    pairs[1] = depth;
+    if (has_one(&im->r0, x)) {
+        uint32_t child = next[depth + 1]; /* no call below touches this one */
+        do filled += write_from(im, next, child, depth + 1, pairs + filled);
+        while (!has_one(&im->r1, child++));
+        next[depth + 1] = child;
+    }
+    return filled;
+}
+
+static void write_listing(const struct image *im, uint32_t *next, uint32_t *pairs)
+{
+    write_from(im, next, next[0], 0, pairs);
+}
+
+#else
+
 /* A string of an image without what lies between its blocks: a bit of it is then found without a division. */
 static void gather(const struct bits *r, uint8_t string[STRING_BLOCKS * STRING_BYTES])
 {
     for (uint32_t b = 0; b < r->nblocks; b++) memcpy(string + STRING_BYTES * b, string_of(r->blocks + BLOCK * b), STRING_BYTES);
 }
 
-/* Ones among the bits `from` to `to` - 1, from 0. */
-static uint32_t ones_between(const uint8_t *string, size_t from, size_t to)
-{
-    size_t word = from / 64;
-    uint32_t count = 0, before = ones(load_bits(string + 8 * word) >> 1 >> (63 - from % 64));
-    for (; word < to / 64; word++) count += ones(load64(string + 8 * word));
-    return count + ones(load_bits(string + 8 * word) >> 1 >> (63 - to % 64)) - before;
-}
-
-/* What a listing is written from. Nodes of one depth below the listed node have numbers in a row, and come in this order:
- * the next one of each depth is enough. */
-struct walk {
-    uint8_t r1[STRING_BLOCKS * STRING_BYTES], r0[STRING_BLOCKS * STRING_BYTES];
-    uint32_t next[LEVELS];
-};
-
-static bool has_children(const struct walk *walk, uint32_t x)
-{
-    return bit_at(walk->r0, x - 1);
-}
-
-static bool ends_siblings(const struct walk *walk, uint32_t x)
-{
-    return bit_at(walk->r1, x - 1);
-}
-
-#ifndef STORE_LIST_SKIPS_LEAVES
-
-/* Writes x and its depth at the front of `pairs` and then, by a call of itself for each child, the child's listing behind
- * what is written. Answers how many numbers that were. */
-static size_t write_from(struct walk *walk, uint32_t x, uint32_t depth, uint32_t *pairs)
-{
-    size_t filled = 2;
-    pairs[0] = x;
-    pairs[1] = depth;
-    if (has_children(walk, x)) {
-        uint32_t child = walk->next[depth + 1]; /* no call below touches this one */
-        do filled += write_from(walk, child, depth + 1, pairs + filled);
-        while (!ends_siblings(walk, child++));
-        walk->next[depth + 1] = child;
-    }
-    return filled;
-}
-
-static void write_listing(struct walk *walk, uint32_t *pairs)
-{
-    write_from(walk, walk->next[0], 0, pairs);
-}
-
-#else
-
 /* From node to node, down and up again, without a call for any of them. Above x, `next` has x's parent and what is above it,
  * to come back to. */
-static void write_listing(struct walk *walk, uint32_t *pairs)
+static void write_listing(const struct image *im, uint32_t *next, uint32_t *pairs)
 {
-    uint32_t *next = walk->next, depth = 0, x = next[0];
+    uint8_t r1[STRING_BLOCKS * STRING_BYTES], r0[STRING_BLOCKS * STRING_BYTES];
+    gather(&im->r1, r1);
+    gather(&im->r0, r0);
+    uint32_t depth = 0, x = next[0];
     for (;;) {
         *pairs++ = x;
         *pairs++ = depth;
-        if (has_children(walk, x)) {
+        if (bit_at(r0, x - 1)) {
             next[depth++] = x;
             x = next[depth];
             continue;
         }
-        while (depth > 0 && ends_siblings(walk, x)) {
+        while (depth > 0 && bit_at(r1, x - 1)) {
             next[depth--] = x + 1;
             x = next[depth];
         }
@@ -585,22 +567,18 @@ static plq_answer plain_list(const uint8_t *image, size_t nbytes, uint32_t node,
     if (checked.code != PLQ_DONE) return checked;
     if (node < 1 || node > im.n) return refused(PLQ_NOT_ALLOWED, 1);
 
-    struct walk walk;
-    gather(&im.r1, walk.r1);
-    gather(&im.r0, walk.r0);
-    uint32_t low = node, high = node, depth = 0;
+    uint32_t next[LEVELS], low = node, high = node, depth = 0;
     size_t count = 0;
     while (low <= high) {
         if (depth == LEVELS) return refused(PLQ_TOO_DEEP, low);
-        walk.next[depth++] = low;
+        next[depth++] = low;
         count += high - low + 1;
-        uint32_t run = 1 + ones_left(&im.r0, low), runs = ones_between(walk.r0, low - 1, high);
-        low = place_of(&im.r1, run) + 1;
-        high = place_of(&im.r1, run + runs);
+        low = nodes_before_zero(&im, low) + 1;
+        high = nodes_before_zero(&im, high + 1);
     }
     if (room < 2 * count) return refused(PLQ_NO_ROOM, 0);
 
-    write_listing(&walk, pairs);
+    write_listing(&im, next, pairs);
     return done(count, 0);
 }
 

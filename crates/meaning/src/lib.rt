@@ -41,5 +41,3 @@ pub const MOST_QUESTIONS: usize = 256;
 pub const FEWEST_BLOCKS: usize = 5;
 
 pub const MOST_BLOCKS: usize = 53;
-
-pub const MOST_DEPTH: usize = 64;
