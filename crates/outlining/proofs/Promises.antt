@@ -8,15 +8,14 @@ use native.Mathlib.Decide.{decLt}
 use lib.Dec.{eqb}
 use lib.ListN.{length, take, replicate, length-take, length-replicate}
 use lib.Seq.{take-all}
-use Rattle.meaning.specs.declared.Answer.{Answer}
 use Rattle.meaning.specs.Trees.{Tree, Node, nodes, depth}
 use Rattle.meaning.specs.Parents.{parents}
-use Rattle.meaning.specs.Strings.{ones, lbs, R1, stringOf}
-use Rattle.meaning.specs.Blocks.{blocksIn, wrongBlock}
+use Rattle.meaning.specs.Strings.{stringOf}
+use Rattle.meaning.specs.Blocks.{wrongBlock}
 use Rattle.meaning.specs.Image.{imageOfString, image, isImage, parentsIn}
 use Rattle.meaning.specs.Questions.{answer}
 use Rattle.meaning.specs.Listing.{listing, deep}
-use Rattle.meaning.specs.Answers.{refusedWith, counts, settle, written}
+use Rattle.meaning.specs.Answers.{refusedWith, settle, written}
 use Rattle.meaning.specs.Calls.{wrongSize, checkRows, checkImage, listImage}
 use Rattle.theory.specs.Walks.{root, everything, Lists, AllBelow, FirstAt}
 use Rattle.theory.proofs.Settled.{or-first, or-second, unequal, beyond}
@@ -24,10 +23,9 @@ use Rattle.theory.proofs.Parents.{parents-are}
 use Rattle.theory.proofs.Forms.{length-parents}
 use Rattle.theory.proofs.TreeImages.{parents-in}
 use Rattle.theory.proofs.Addresses.{first-node, degree-at}
-use Rattle.theorems.proofs.Promises.{part-counts}
 use Rattle.checked.proofs.Finding.{found-size}
-use Rattle.checked.proofs.Promises.{tree-checked}
-use Rattle.listing.proofs.Promises.{listed-of-tree, lists-length, too-deep-is-named}
+use Rattle.images.specs.Promises.{countsOf}
+use Rattle.images.proofs.Promises.{checked-of-tree, listed-of-tree, lists-length, too-deep-is-named}
 use Rattle.text.specs.Text.{digits, decimal}
 use Rattle.lines.specs.Lines.{heading, nodeLine, nodeLines, refusal}
 use Rattle.outlining.specs.Outline.{printed, outlineOf}
@@ -60,21 +58,12 @@ no-more-is-read bytes = elim (decLt 27136 (length bytes)) [
 
 -- ---- of a tree's image
 
-module _ (t : Tree) (h : nodes t ≤ 65535) where
-  abbrev found : Answer
-  found = counts (nodes t) (ones (R1 (lbs t)))
-
-  tree-found : checkImage (image t) .answer ≡ found
-  tree-found = ap (λ o. o .answer) (tree-checked t h)
-
-  tree-top : heading (nodes t) (ones (R1 (lbs t))) (blocksIn (image t)) ≡ headingOf t
-  tree-top = ap (λ m. heading (nodes t) m (blocksIn (image t))) (part-counts t .2)
-
-  tree-outline : let listed = listImage (image t) 1 (replicate (2 * nodes t) 0) in outlineOf (image t) ≡ printed (image t) found (listed .answer) (listed .lent)
-  tree-outline = by-answer (image t) found tree-found
+tree-outline : (t : Tree) → nodes t ≤ 65535
+    → let listed = listImage (image t) 1 (replicate (2 * nodes t) 0) in outlineOf (image t) ≡ printed (image t) (countsOf t) (listed .answer) (listed .lent)
+tree-outline t h = by-answer (image t) (countsOf t) (ap (λ o. o .answer) (checked-of-tree t h))
 
 pub only-the-heading : P.OnlyTheHeading
-only-the-heading t l h = tree-outline t h ∙ many (image t) (found t h) _ _ refl l ∙ tree-top t h
+only-the-heading t l h = tree-outline t h ∙ many (image t) (countsOf t) _ _ refl l
 
 lines-of : (t : Tree) (vs : List Node) (ns : List ℕ) → Lists t 0 vs ns → LinesOf t vs (nodeLines (parents t) ns)
 unfolding nodeLines answer
@@ -108,17 +97,21 @@ module _ (t : Tree) (few : nodes t ≤ 4000) where
 
   each-node : AllBelow 64 (everything (root t)) → (text : List ℕ) × (outlineOf x ≡ headingOf t ++ text) × LinesOf t (everything (root t)) text
   each-node below =
-      let r = listed-of-tree t 1 zeros small (omega arith) some (subst (λ v. AllBelow (64 + depth v) (everything v)) (sym (first-node t)) below)
-      (omega (arith, every-node t, zeros-size)) in
+      let r = listed-of-tree t 1 zeros small (record {
+        from = omega arith;
+        to = some;
+        shallow = subst (λ v. AllBelow (64 + depth v) (everything v)) (sym (first-node t)) below;
+        room = omega (arith, every-node t, zeros-size);
+      }) in
       let pairs = r .0 in
       let lists : Lists t 0 (everything (root t)) pairs = subst (λ v. Lists t (depth v) (everything v) pairs) (first-node t) (r .2) in
       let size = lists-length t 0 (everything (root t)) pairs lists in
       let alone = all-written pairs zeros (omega (arith, zeros-size, size, ap (λ v. length (everything v)) (first-node t), every-node t)) in (
         nodeLines (parents t) pairs,
         tree-outline t small
-            ∙ ap (λ o. printed x (found t small) (o .answer) (o .lent)) (r .1)
-            ∙ all-listed x (found t small) _ (written pairs zeros) refl few refl
-            ∙ ap₂ _++_ (tree-top t small) (ap₂ nodeLines (parents-in t small) alone),
+            ∙ ap (λ o. printed x (countsOf t) (o .answer) (o .lent)) (r .1)
+            ∙ all-listed x (countsOf t) _ (written pairs zeros) refl few refl
+            ∙ ap (λ text. headingOf t ++ text) (ap₂ nodeLines (parents-in t small) alone),
         lines-of t (everything (root t)) pairs lists,
       )
 
@@ -128,8 +121,8 @@ module _ (t : Tree) (few : nodes t ≤ 4000) where
       let y = r .0 in (
         y,
         tree-outline t small
-            ∙ ap (λ o. printed x (found t small) (o .answer) (o .lent)) (r .1)
-            ∙ not-listed x (found t small) (refusedWith 9 y) zeros refl few (λ e. omega arith),
+            ∙ ap (λ o. printed x (countsOf t) (o .answer) (o .lent)) (r .1)
+            ∙ not-listed x (countsOf t) (refusedWith 9 y) zeros refl few (λ e. omega arith),
         subst (λ v. FirstAt t (64 + depth v) (everything v) y) (first-node t) (r .2),
       )
 

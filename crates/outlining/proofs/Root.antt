@@ -18,7 +18,7 @@ use Rattle.checked.specs.declared.Checked.the-variants.{Sound}
 use Rattle.checked.specs.Checked.{checked}
 use Rattle.checked.proofs.Finding.{sound-known}
 use Rattle.levels.proofs.Numbers.{parents-count}
-use Rattle.listing.proofs.Promises.{lists-length}
+use Rattle.images.proofs.Promises.{lists-length}
 use Rattle.lines.specs.Lines.{Pairs}
 
 -- ---- depth-first order has as many nodes as level order

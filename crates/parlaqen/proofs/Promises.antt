@@ -1,34 +1,18 @@
 -- The promises are kept.
-use mathlib.Core.Path.{_≡_, refl, sym, ap, ap₂, _∙_}
-use mathlib.Core.Bool.{Bool, true, false, true≢false, cond, not, _||_}
-use mathlib.Core.List.{List, [], _∷_, _++_}
+use mathlib.Core.Path.{_≡_, refl, sym, ap, _∙_}
+use mathlib.Core.Bool.{Bool, true, false, cond}
+use mathlib.Core.List.{List, [], _∷_}
 use mathlib.Core.Logic.{_⊎_, inl, inr}
-use Prim.Native.Nat.{ℕ, _+_, _*_, _≤_}
-use native.Mathlib.Omega.{arith}
-use borrow.Author.Tests.{ltb-true, ltb-false}
-use lib.Dec.{ltb, eqb}
-use lib.ListN.{length}
+use Prim.Native.Nat.{ℕ}
 use Rattle.meaning.specs.declared.Answer.{Answer}
-use Rattle.meaning.specs.Trees.{Tree}
-use Rattle.meaning.specs.Parents.{badEntry}
-use Rattle.meaning.specs.Strings.{strings, stringOf}
-use Rattle.meaning.specs.Bytes.{bitsFrom, bytesFor, leftover, packed}
-use Rattle.meaning.specs.Scan.{many, place}
-use Rattle.meaning.specs.Packs.{starts, sizes}
-use Rattle.meaning.specs.Answers.{Row, _at_when_, Outcome, counts, refusedWith, cameTo, settle, written, tooShort}
+use Rattle.meaning.specs.Answers.{Row, Outcome, counts, refusedWith, cameTo, settle}
 use Rattle.meaning.specs.Cases.{string-of-parents, parents-of-string, image-of-parents, parents-of-image, check-image, ask, list, split, join, does}
-use Rattle.meaning.specs.Calls.{wrongCount, stringOfParents, parentsOfString, imageOfParents, checkRows, checkImage, parentsOfImage, askImage, listImage, splitPack, joinPack}
-use Rattle.theory.proofs.Packing.{bits-length, read-packed}
-use Rattle.theory.proofs.Packs.{found-is}
+use Rattle.meaning.specs.Calls.{stringOfParents, parentsOfString, imageOfParents, checkRows, checkImage, parentsOfImage, askImage, listImage, splitPack, joinPack}
 use Rattle.theorems.proofs.Promises as Theory
-use Rattle.theory.proofs.Codes.{not-unequal, none-held, row-held}
 use Rattle.strings.proofs.Promises as Strings
-use Rattle.packs.specs.Promises.{FitPack}
 use Rattle.packs.proofs.Promises as Packs
-use Rattle.checked.proofs.Promises as Images
-use Rattle.unseal.proofs.Promises as Unsealing
-use Rattle.questions.proofs.Promises as Questions
-use Rattle.listing.proofs.Promises as Listings
+use Rattle.images.proofs.Promises as Images
+use Rattle.outlining.proofs.Promises as Outline
 use Rattle.parlaqen.specs.Promises as P
 use Rattle.parlaqen.specs.Promises.{OneOf}
 
@@ -87,103 +71,6 @@ done-or-refused (join pack L k ps) = settled pack (λ x. x ∷ []) _ (joinPack p
 one-outcome : P.OneOutcome
 one-outcome A o a b x y e f = let q = e ∙ sym f in (ap (λ w. w .answer) q, ap (λ w. w .lent) q)
 
--- ---- packs
-
-neither : (s t : Bool) → (s || t) ≡ false → (s ≡ false) × (t ≡ false)
-neither true t e = absurd (true≢false e)
-neither false t e = (refl, e)
-
--- what a pack that is split is like
-record Accepted (bytes : List ℕ) (L k : ℕ) : Type 0 where
-  short : L ≤ 131071
-  size : length bytes ≡ bytesFor L
-  few : k ≤ 256
-  clean : leftover bytes L ≡ false
-  good : place many (bitsFrom bytes 0 L) ≡ 0
-  found : length (sizes (bitsFrom bytes 0 L)) ≡ k
-
-accepted : (bytes : List ℕ) (L k : ℕ) (firsts counted : List ℕ) → splitPack bytes L k firsts counted .answer .code ≡ 0 → Accepted bytes L k
-unfolding splitPack
-accepted bytes L k firsts counted e =
-    let bits = bitsFrom bytes 0 L in
-    let h = none-held (firsts, counted) (counts L k) (written (starts bits) firsts, written (sizes bits) counted) 0 _ (omega arith) e .0 in
-    let a = neither (ltb 131071 L || not (eqb (length bytes) (bytesFor L))) (ltb 256 k) (h .0) in
-    let b = neither (ltb 131071 L) (not (eqb (length bytes) (bytesFor L))) (a .0) in
-    record {
-      short = ltb-false 131071 L (b .0);
-      size = not-unequal (length bytes) (bytesFor L) (b .1);
-      few = ltb-false 256 k (a .1);
-      clean = h .1 .0;
-      good = let l = ltb-false 0 (place many bits) (h .1 .1 .0) in omega arith;
-      found = not-unequal (length (sizes bits)) k (h .1 .1 .1 .0);
-    }
-
-pack-accepted : P.PackAcceptedExactly
-pack-accepted bytes L k firsts counted b room roomSizes = (to, from)
-  where
-    to : splitPack bytes L k firsts counted .answer .code ≡ 0
-        → (ts : List Tree) × FitPack ts × (packed (strings ts) ≡ bytes) × (L ≡ length (strings ts)) × (k ≡ length ts)
-    to e =
-        let a = accepted bytes L k firsts counted e in
-        let w = Theory.pack-accepted (bitsFrom bytes 0 L) .0 (a .good) in
-        let ts = w .0 in
-        let l : L ≡ length (strings ts) = sym (bits-length bytes 0 L) ∙ ap length (sym (w .2)) in
-        let n : k ≡ length ts = sym (a .found) ∙ ap (λ bs. length (sizes bs)) (sym (w .2)) ∙ found-is ts (w .1) in (
-          ts,
-          record { small = w .1; few = omega (arith, a .few); short = omega (arith, a .short) },
-          ap packed (w .2) ∙ read-packed bytes L b (a .size) (a .clean),
-          l,
-          n,
-        )
-
-    from : (ts : List Tree) × FitPack ts × (packed (strings ts) ≡ bytes) × (L ≡ length (strings ts)) × (k ≡ length ts)
-        → splitPack bytes L k firsts counted .answer .code ≡ 0
-    from w =
-        let ts = w .0 in
-        let f = w .1 in
-        ap (λ xs. splitPack xs L k firsts counted .answer .code) (sym (w .2))
-        ∙ ap₂ (λ l n. splitPack (packed (strings ts)) l n firsts counted .answer .code) (w .3) (w .4)
-        ∙ ap (λ o. o .answer .code) (Packs.split-gives-trees ts firsts counted f (omega (arith, f .few)) (omega (arith, f .few)))
-
--- ---- joining to a damaged pack
-
--- code 0: the pack's own bits are strings end to end, of k trees
-joined-accepted : (pack : List ℕ) (L k : ℕ) (ps : List ℕ) → joinPack pack L k ps .answer .code ≡ 0
-    → (place many (bitsFrom pack 0 L) ≡ 0) × (length (sizes (bitsFrom pack 0 L)) ≡ k)
-unfolding joinPack
-joined-accepted pack L k ps e =
-    let bits = bitsFrom pack 0 L in
-    let longer = L + (2 * length ps + 1) in
-    let h = none-held pack (counts longer (k + 1)) (written (packed (bits ++ stringOf ps)) pack) 0 _ (omega arith) e .0 in
-    (let l = ltb-false 0 (place many bits) (h .1 .1 .0) in omega arith, not-unequal (length (sizes bits)) k (h .1 .1 .1 .0))
-
-odd-never-joined : P.OddNeverJoined
-odd-never-joined a b L k firsts counted ps e f m c =
-    let v = accepted a L k firsts counted e in
-    let w = joined-accepted b L k ps f in
-    Theory.odd-changes (bitsFrom a 0 L) (bitsFrom b 0 L) k (bits-length a 0 L ∙ sym (bits-length b 0 L)) (v .good) (v .found) (w .0) (w .1) m c
-
--- code 4 goes with the place of the pack's own bits
-joined-place : (pack : List ℕ) (L k : ℕ) (ps : List ℕ) → joinPack pack L k ps .answer .code ≡ 4
-    → (1 ≤ place many (bitsFrom pack 0 L)) × (joinPack pack L k ps .answer .place ≡ place many (bitsFrom pack 0 L))
-unfolding joinPack
-joined-place pack L k ps e =
-    let bits = bitsFrom pack 0 L in
-    let n = length (sizes bits) in
-    let longer = L + (2 * length ps + 1) in
-    let upper : List Row = 2 at 0 when (wrongCount ps || ltb 131071 L || ltb (length pack) (bytesFor L) || ltb 255 k || ltb 131071 longer) ∷ 5 at 0 when leftover pack L ∷ [] in
-    let row : Row = 4 at place many bits when ltb 0 (place many bits) in
-    let lower : List Row = 10 at n when not (eqb n k) ∷ 3 at badEntry ps when ltb 0 (badEntry ps) ∷ 1 at 0 when tooShort (packed (bits ++ stringOf ps)) pack ∷ [] in
-    let h = row-held pack (counts longer (k + 1)) (written (packed (bits ++ stringOf ps)) pack) 4 upper row lower (omega arith) (omega arith) (omega arith) e in
-    (ltb-true 0 (place many bits) (h .0), h .1)
-
-join-never-before : P.JoinNeverNamesBefore
-join-never-before a b L k k′ firsts counted ps j e f same l =
-    let w = joined-place b L k′ ps f in
-    let n = bits-length b 0 L in
-    let h = Theory.never-before many (bitsFrom a 0 L) (bitsFrom b 0 L) j (accepted a L k firsts counted e .good) same (omega arith) (λ z. omega (arith, w .0)) in
-    omega (arith, h, w .1)
-
 -- ---- all of them
 
 pub kept : P.Promises
@@ -191,26 +78,82 @@ kept = record {
   done-or-refused = done-or-refused;
   upper-row-wins = Theory.upper-row-wins;
   one-outcome = one-outcome;
+  level-order = Theory.level-order;
+  one-number = Theory.one-number;
+  parent-lists = Theory.parent-lists;
+  one-tree = Theory.one-tree;
+  lowest-entry = Theory.lowest-entry;
+  list-written = Strings.list-written-exactly;
+  list-sealed = Images.list-sealed-exactly;
+  list-joined = Packs.joined-exactly;
+  string-counts = Theory.string-counts;
+  bytes-back = Theory.bytes-back;
+  one-bytes = Theory.one-bytes;
+  string-back = Theory.string-back;
   written-then-read = Strings.written-then-read;
-  string-accepted = Strings.string-accepted-exactly;
   read-then-written = Strings.read-then-written;
-  sealed-then-read = Unsealing.sealed-then-read;
+  bits-accepted = Theory.string-accepted;
+  string-accepted = Strings.string-accepted-exactly;
+  refused-there = Theory.refused-there;
+  read-by-end = Strings.read-by-end;
+  part-counts = Theory.part-counts;
+  parts-back = Theory.parts-back;
+  parent-by-strings = Theory.parent-by-strings;
+  ones-by-strings = Theory.ones-by-strings;
+  children-by-strings = Theory.children-by-strings;
+  leaf-by-strings = Theory.leaf-by-strings;
+  next-by-strings = Theory.next-by-strings;
+  answers-by-strings = Theory.all-by-strings;
+  image-blocks = Theory.image-has-blocks;
+  image-laid = Theory.image-is-laid;
+  samples-are = Theory.samples-are;
+  image-back = Theory.image-back;
+  sealed-then-read = Images.sealed-then-read;
+  bytes-accepted = Theory.image-accepted;
   image-accepted = Images.image-accepted-exactly;
-  accepted-is-sealed = Unsealing.accepted-is-sealed;
-  one-image-per-tree = Unsealing.one-image-per-tree;
-  asked-of-tree = Questions.asked-of-tree;
-  listed-of-tree = Listings.listed-of-tree;
-  too-deep-is-named = Listings.too-deep-is-named;
+  checked-of-tree = Images.checked-of-tree;
+  checked-by-found = Images.checked-by-found;
+  image-read = Images.image-read-exactly;
+  accepted-is-sealed = Images.accepted-is-sealed;
+  one-image-per-tree = Images.one-image-per-tree;
+  checked-first = Images.checked-first;
+  own-children = Theory.own-children;
+  own-parent = Theory.own-parent;
+  own-answer = Theory.own-answers;
+  asked-of-tree = Images.asked-of-tree;
+  asked-exactly = Images.asked-exactly;
+  allowed-exactly = Images.allowed-exactly;
+  own-listing = Theory.own-listing;
+  listed-of-tree = Images.listed-of-tree;
+  listed-exactly = Images.listed-exactly;
+  too-deep-is-named = Images.too-deep-is-named;
+  listed-by-measure = Images.listed-by-measure;
   one-list = Theory.one-list;
   none-begins = Theory.none-begins;
-  pack-accepted = pack-accepted;
+  pack-bits-accepted = Theory.pack-accepted;
+  pack-accepted = Packs.pack-accepted-exactly;
+  starts-and-sizes = Theory.starts-and-sizes;
   split-gives-trees = Packs.split-gives-trees;
+  parts-of-pack = Theory.parts-of-pack;
   parts-give-trees = Packs.parts-give-trees;
   join-adds-tree = Packs.join-adds-tree;
   join-then-split = Packs.join-then-split;
+  split-by-held = Packs.split-by-held;
+  join-by-held = Packs.join-by-held;
+  held-by-scan = Packs.held-by-scan;
+  odd-changes = Theory.odd-changes;
   odd-never-split = Packs.odd-never-split;
-  odd-never-joined = odd-never-joined;
+  odd-never-joined = Packs.odd-never-joined;
+  odd-never-read = Strings.odd-never-read;
+  never-before = Theory.never-before;
   string-never-before = Strings.never-named-before;
   pack-never-before = Packs.never-named-before;
-  join-never-before = join-never-before;
+  join-never-before = Packs.join-never-before;
+  each-node-has-its-line = Outline.each-node-has-its-line;
+  only-the-heading = Outline.only-the-heading;
+  only-the-refusal = Outline.only-the-refusal;
+  only-the-first-too-deep = Outline.only-the-first-too-deep;
+  too-many-bytes = Outline.too-many-bytes;
+  no-more-is-read = Outline.no-more-is-read;
+  tree-t = Outline.tree-t;
 }

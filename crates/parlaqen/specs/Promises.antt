@@ -1,16 +1,14 @@
 -- What the store promises, in the order of the customer's demands. Each name is a statement about the nine calls as functions of what is lent
 -- (meaning/specs/Calls.antt); the contract of each exported call is an equation with its function, so what is said here is said of the code.
--- `Promises`, at the end, is all of them; proofs/Promises.antt keeps it.
+-- `Promises`, at the end, is all of them, with those of the theory, of strings, packs and images, and of the outline; proofs/Promises.antt keeps it.
 use mathlib.Core.Path.{_≡_}
 use mathlib.Core.List.{List, [], _∷_}
-use mathlib.Core.Logic.{_↔_, _⊎_}
-use Prim.Native.Nat.{ℕ, _+_, _*_, _≤_, _<_}
-use lib.ListN.{length, take}
+use mathlib.Core.Logic.{_⊎_}
+use Prim.Native.Nat.{ℕ}
+use lib.ListN.{length}
 use Rattle.meaning.specs.declared.Answer.{Answer}
-use Rattle.meaning.specs.Trees.{Tree}
 use Rattle.meaning.specs.Parents.{badEntry}
-use Rattle.meaning.specs.Strings.{strings}
-use Rattle.meaning.specs.Bytes.{bitsFrom, packed}
+use Rattle.meaning.specs.Bytes.{bitsFrom}
 use Rattle.meaning.specs.Scan.{one, many, place}
 use Rattle.meaning.specs.Packs.{sizes}
 use Rattle.meaning.specs.Blocks.{wrongBlock}
@@ -18,18 +16,12 @@ use Rattle.meaning.specs.Image.{parentsIn}
 use Rattle.meaning.specs.Questions.{questions, notAllowed}
 use Rattle.meaning.specs.Listing.{listing, deep}
 use Rattle.meaning.specs.Answers.{Outcome, cameTo}
-use Rattle.meaning.specs.Calls.{splitPack, joinPack}
 use Rattle.meaning.specs.Cases.{Call, string-of-parents, parents-of-string, image-of-parents, parents-of-image, check-image, ask, list, split, join, does}
-use Rattle.theory.specs.Layout.{AreBytes}
 use Rattle.theorems.specs.Promises as Theory
-use Rattle.theory.specs.Changes.{changed}
 use Rattle.strings.specs.Promises as Strings
 use Rattle.packs.specs.Promises as Packs
-use Rattle.packs.specs.Promises.{FitPack}
-use Rattle.checked.specs.Promises as Images
-use Rattle.unseal.specs.Promises as Unsealing
-use Rattle.questions.specs.Promises as Questions
-use Rattle.listing.specs.Promises as Listings
+use Rattle.images.specs.Promises as Images
+use Rattle.outlining.specs.Promises as Outline
 
 -- ---- Demand 1. A `Call` is one of the nine with its inputs, whatever they are; `does` is what it comes to.
 
@@ -71,26 +63,6 @@ DoneOrRefused = (c : Call) → let r = does c in
 abbrev pub OneOutcome : Type 1
 OneOutcome = (A : Type 0) (o : Outcome A) (a b : Answer) (x y : A) → cameTo a x ≡ o → cameTo b y ≡ o → (a ≡ b) × (x ≡ y)
 
--- ---- Demand 3, bits accepted as a pack: exactly if they are the strings of k trees end to end; lists for 256 trees are never too short.
-
-abbrev pub PackAcceptedExactly : Type 0
-PackAcceptedExactly = (bytes : List ℕ) (L k : ℕ) (starts sizes′ : List ℕ) → AreBytes bytes → 256 ≤ length starts → 256 ≤ length sizes′
-    → (splitPack bytes L k starts sizes′ .answer .code ≡ 0)
-    ↔ ((ts : List Tree) × FitPack ts × (packed (strings ts) ≡ bytes) × (L ≡ length (strings ts)) × (k ≡ length ts))
-
--- ---- Demand 3, damage to a pack that a tree is joined to, as to one that is split.
-
-abbrev pub OddNeverJoined : Type 0
-OddNeverJoined = (a b : List ℕ) (L k : ℕ) (starts sizes′ ps : List ℕ)
-    → splitPack a L k starts sizes′ .answer .code ≡ 0 → joinPack b L k ps .answer .code ≡ 0
-    → (m : ℕ) → changed (bitsFrom a 0 L) (bitsFrom b 0 L) ≡ 2 * m + 1 → ⊥
-
-abbrev pub JoinNeverNamesBefore : Type 0
-JoinNeverNamesBefore = (a b : List ℕ) (L k k′ : ℕ) (starts sizes′ ps : List ℕ) (j : ℕ)
-    → splitPack a L k starts sizes′ .answer .code ≡ 0 → joinPack b L k′ ps .answer .code ≡ 4
-    → take j (bitsFrom a 0 L) ≡ take j (bitsFrom b 0 L) → j ≤ L
-    → j < joinPack b L k′ ps .answer .place
-
 -- ---- All of them.
 
 pub record Promises : Type 1 where
@@ -100,36 +72,115 @@ pub record Promises : Type 1 where
   pub upper-row-wins : Theory.UpperRowWins
   -- one answer, and one content of every lent list, for any input
   pub one-outcome : OneOutcome
-  -- Demand 2. Any tree comes back the same from its string
+  -- Demand 2. Nodes are numbered in level order, and a node has one number
+  pub level-order : Theory.LevelOrder
+  pub one-number : Theory.OneNumber
+  -- a list of numbers is a tree exactly if it keeps the rule; the tree is one
+  pub parent-lists : Theory.ParentLists
+  pub one-tree : Theory.OneTree
+  -- code 3 names the lowest offending entry
+  pub lowest-entry : Theory.LowestEntry
+  -- each call that takes a parent list accepts it exactly if some tree has it
+  pub list-written : Strings.ListWrittenExactly
+  pub list-sealed : Images.ListSealedExactly
+  pub list-joined : Packs.JoinedExactly
+  -- a tree string has n ones and n + 1 zeros
+  pub string-counts : Theory.StringCounts
+  -- L bits take L / 8 bytes rounded up, with leftover bits zero, and no other bytes have them
+  pub bytes-back : Theory.BytesBack
+  pub one-bytes : Theory.OneBytes
+  -- any tree comes back the same from its string
+  pub string-back : Theory.StringBack
   pub written-then-read : Strings.WrittenThenRead
-  -- bits are accepted exactly if some tree gives them
-  pub string-accepted : Strings.StringAcceptedExactly
   pub read-then-written : Strings.ReadThenWritten
-  -- and from its image
-  pub sealed-then-read : Unsealing.SealedThenRead
-  -- an image is accepted exactly if some tree gives it; two trees never give one image
+  -- bits are accepted exactly if some tree gives them
+  pub bits-accepted : Theory.StringAccepted
+  pub string-accepted : Strings.StringAcceptedExactly
+  -- code 4 names the first p whose first p bits begin no string; L + 1 if there is no such p
+  pub refused-there : Theory.RefusedThere
+  pub read-by-end : Strings.ReadByEnd
+  -- R1 has n bits, R0 n + 1; both have m ones, where m is one more than the number of nodes with children
+  pub part-counts : Theory.PartCounts
+  -- and they give the tree back
+  pub parts-back : Theory.PartsBack
+  -- what the strings give: the parent, the ones before the z-th zero, children, leaves, the next sibling, and so all ten kinds
+  pub parent-by-strings : Theory.ParentByStrings
+  pub ones-by-strings : Theory.OnesByStrings
+  pub children-by-strings : Theory.ChildrenByStrings
+  pub leaf-by-strings : Theory.LeafByStrings
+  pub next-by-strings : Theory.NextByStrings
+  pub answers-by-strings : Theory.AnswersByStrings
+  -- an image is 5 to 53 whole blocks that all check, laid out as document 01 has it; sample j is the position of one number 64 j + 1
+  pub image-blocks : Theory.ImageBlocks
+  pub image-laid : Theory.ImageLaid
+  pub samples-are : Theory.SamplesAre
+  -- any tree comes back the same from its image; the counts of an image made are n and m
+  pub image-back : Theory.ImageBack
+  pub sealed-then-read : Images.SealedThenRead
+  -- an image is accepted exactly if some tree gives it; the counts of an image checked are n and m
+  pub bytes-accepted : Theory.ImageAccepted
   pub image-accepted : Images.ImageAcceptedExactly
-  pub accepted-is-sealed : Unsealing.AcceptedIsSealed
-  pub one-image-per-tree : Unsealing.OneImagePerTree
+  pub checked-of-tree : Images.CheckedOfTree
+  pub checked-by-found : Images.CheckedByFound
+  pub image-read : Images.ImageReadExactly
+  -- two trees never give one image
+  pub accepted-is-sealed : Images.AcceptedIsSealed
+  pub one-image-per-tree : Images.OneImagePerTree
+  -- every public reading of an image makes the whole check first
+  pub checked-first : Images.CheckedFirst
   -- each navigation answer is the one the tree itself gives
-  pub asked-of-tree : Questions.AskedOfTree
-  -- and so is the listing
-  pub listed-of-tree : Listings.ListedOfTree
-  pub too-deep-is-named : Listings.TooDeepIsNamed
+  pub own-children : Theory.OwnChildren
+  pub own-parent : Theory.OwnParent
+  pub own-answer : Theory.OwnAnswer
+  pub asked-of-tree : Images.AskedOfTree
+  -- questions are answered exactly if a tree's image is asked, in threes, 256 at most, and kind, node and argument of each are allowed
+  pub asked-exactly : Images.AskedExactly
+  pub allowed-exactly : Images.AllowedExactly
+  -- the listing is the tree's own depth-first order, with depths
+  pub own-listing : Theory.OwnListing
+  pub listed-of-tree : Images.ListedOfTree
+  -- a node is listed exactly if it is one of a tree's image, and no depth would be 64 or more
+  pub listed-exactly : Images.ListedExactly
+  -- code 9 names the first node in listing order at depth 64
+  pub too-deep-is-named : Images.TooDeepIsNamed
+  pub listed-by-measure : Images.ListedByMeasure
   -- Demand 3. Strings end to end: no other list gives those bits, and no tree's string is the beginning of another tree's
   pub one-list : Theory.OneList
   pub none-begins : Theory.NoneBegins
   -- the splitter accepts exactly such strings, and gives each tree's start and size
-  pub pack-accepted : PackAcceptedExactly
+  pub pack-bits-accepted : Theory.PackAccepted
+  pub pack-accepted : Packs.PackAcceptedExactly
+  pub starts-and-sizes : Theory.StartsAndSizes
   pub split-gives-trees : Packs.SplitGivesTrees
   -- reading those parts gives the list back
+  pub parts-of-pack : Theory.PartsOfPack
   pub parts-give-trees : Packs.PartsGiveTrees
+  -- joining adds one tree: earlier bits stay, new leftover bits are zero, bytes after the new last one stay; it answers the new length and k + 1
   pub join-adds-tree : Packs.JoinAddsTree
   pub join-then-split : Packs.JoinThenSplit
+  -- the numbers of what a pack is refused for
+  pub split-by-held : Packs.SplitByHeld
+  pub join-by-held : Packs.JoinByHeld
+  pub held-by-scan : Packs.HeldByScan
   -- with the number of trees known, changing an odd number of bits never yields bits that are accepted with that number
+  pub odd-changes : Theory.OddChanges
   pub odd-never-split : Packs.OddNeverSplit
-  pub odd-never-joined : OddNeverJoined
+  pub odd-never-joined : Packs.OddNeverJoined
+  -- in a single string one changed bit always shows
+  pub odd-never-read : Strings.OddNeverRead
   -- a refusal that names a bit never names one before the first changed bit
+  pub never-before : Theory.NeverBefore
   pub string-never-before : Strings.NeverNamedBefore
   pub pack-never-before : Packs.NeverNamedBefore
-  pub join-never-before : JoinNeverNamesBefore
+  pub join-never-before : Packs.JoinNeverNamesBefore
+  -- The outline prints n, m and blocks, then, if n is at most 4,000, a line for each node in listing order: number, depth, degree
+  pub each-node-has-its-line : Outline.EachNodeHasItsLine
+  pub only-the-heading : Outline.OnlyTheHeading
+  -- after a refusal, listing included, only that
+  pub only-the-refusal : Outline.OnlyTheRefusal
+  pub only-the-first-too-deep : Outline.OnlyTheFirstTooDeep
+  -- more than 27,136 bytes is code 2, place 0
+  pub too-many-bytes : Outline.TooManyBytes
+  pub no-more-is-read : Outline.NoMoreIsRead
+  -- the example, tree T
+  pub tree-t : Outline.TreeT

@@ -1,32 +1,44 @@
 -- The promises of specs/Promises.antt.
-use mathlib.Core.Path.{_≡_, sym, ap, ap₂, _∙_}
-use mathlib.Core.Bool.{false, not, _||_}
-use mathlib.Core.List.{List, [], _∷_}
+use mathlib.Core.Path.{_≡_, refl, sym, ap, ap₂, _∙_}
+use mathlib.Core.Bool.{false, not}
+use mathlib.Core.List.{List, [], _∷_, append-nil}
 use Prim.Native.Nat.{ℕ, _+_, _*_, _≤_}
+use native.Mathlib.Numerals.{add-one}
+use native.Mathlib.Decide.{decLt}
 use native.Mathlib.Omega.{arith}
-use borrow.Author.Tests.{ltb-true, ltb-false}
+use borrow.Author.Tests.{lt-ltb, le-ltb, ltb-false}
 use lib.Dec.{ltb, eqb}
 use lib.ListN.{length, take, drop}
 use lib.Seq.{take-at}
 use Rattle.meaning.specs.Trees.{Tree, nodes}
 use Rattle.meaning.specs.Parents.{parents}
-use Rattle.meaning.specs.Strings.{ones, lbs, parentsOf}
+use Rattle.meaning.specs.Strings.{Bit, ones, lbs, strings, parentsOf, stringOf}
 use Rattle.meaning.specs.Bytes.{bitsFrom, bytesFor, leftover, packed}
 use Rattle.meaning.specs.Scan.{one, place}
-use Rattle.meaning.specs.Answers.{Row, _at_when_, counts, cameTo, written, tooShort}
+use Rattle.meaning.specs.declared.Answer.{Answer}
+use Rattle.meaning.specs.Answers.{Row, _at_when_, counts, cameTo, settle, written, tooShort}
 use Rattle.meaning.specs.Calls.{stringOfParents, parentsOfString}
-use Rattle.theory.specs.Layout.{AreBytes}
+use Rattle.theory.specs.Changes.{changed}
+use Rattle.theory.proofs.Settled.{or-neither, unequal, equal, settle-on}
+use Rattle.theory.proofs.Codes.{neither, not-unequal, listed-tree, none-held}
 use Rattle.theory.proofs.Scan.{nodes-ones}
+use Rattle.theory.proofs.Odd.{never-odd}
 use Rattle.theory.proofs.Parents.{parents-are}
 use Rattle.theory.proofs.Lowest.{parents-badEntry}
 use Rattle.theory.proofs.Forms.{length-parents, string-parents}
 use Rattle.theory.proofs.Packing.{bits-length, packed-length, packed-leftover, packed-read, read-packed}
 use Rattle.theory.proofs.Packs.{string-length}
-use Rattle.theorems.proofs.Promises.{string-back, string-accepted, never-before}
-use Rattle.strings.specs.Promises as P
+use Rattle.theorems.proofs.Promises.{string-back, string-accepted}
+use Rattle.closing.specs.Ends.{treeEnd}
+use Rattle.closing.proofs.Ends.{over-within, refused-within, one-refused, one-whole, one-past}
+use Rattle.scan.specs.declared.TreeEnd.{TreeEnd}
+use Rattle.scan.specs.declared.TreeEnd.the-variants.{Over, Refused}
+use Rattle.scan.specs.Ends.{endOf}
+use Rattle.scan.specs.Numbers.{endRow}
 use Rattle.encoding.proofs.Answers.{string-made}
 use Rattle.decoding.proofs.Answers.{parents-made}
-use Rattle.theory.proofs.Codes.{neither-second, not-unequal, none-held, row-held}
+use Rattle.strings.specs.Promises as P
+use Rattle.strings.proofs.Reading.{read-done, never-among}
 
 -- ---- of a tree
 
@@ -62,7 +74,23 @@ written-then-read t bytes out h room roomOut =
     = ap (λ o. take (bytesFor L) (o .lent)) made ∙ take-at (packed (lbs t)) (drop (length (packed (lbs t))) bytes) (bytesFor L) (string-bytes t) in
     (made, ap (λ xs. parentsOfString xs L out) front ∙ tree-read t out h roomOut)
 
--- ---- of bytes that are accepted
+-- ---- of lists and bytes that are accepted
+
+pub list-written-exactly : P.ListWrittenExactly
+unfolding stringOfParents
+list-written-exactly ps bytes = (
+  there,
+  λ w. ap (λ qs. stringOfParents qs bytes .answer .code) (sym (w .2)) ∙ ap (λ o. o .answer .code) (tree-written (w .0) bytes (w .1) (w .3)),
+)
+  where
+    there : stringOfParents ps bytes .answer .code ≡ 0 → (t : Tree) × (nodes t ≤ 65535) × (parents t ≡ ps) × (bytesFor (2 * nodes t + 1) ≤ length bytes)
+    there e =
+        let h = none-held bytes _ _ 0 _ (omega arith) e .0 in
+        let w = listed-tree ps (h .0) (h .1 .0) in
+        let t = w .0 in
+        let room = ltb-false (length bytes) (length (packed (stringOf ps))) (h .1 .1 .0) in
+        let same = ap (λ bs. length (packed bs)) (sym (string-parents t) ∙ ap stringOf (w .2)) in
+        (t, w .1, w .2, omega (arith, string-bytes t))
 
 record Accepted (bytes : List ℕ) (L : ℕ) (out : List ℕ) : Type 0 where
   size : length bytes ≡ bytesFor L
@@ -73,77 +101,94 @@ record Accepted (bytes : List ℕ) (L : ℕ) (out : List ℕ) : Type 0 where
 accepted : (bytes : List ℕ) (L : ℕ) (out : List ℕ) → parentsOfString bytes L out .answer .code ≡ 0 → Accepted bytes L out
 unfolding parentsOfString
 accepted bytes L out e =
-    let bits = bitsFrom bytes 0 L in
-    let h = none-held out (counts (length (parentsOf bits)) 0) (written (parentsOf bits) out) 0 _ (omega arith) e .0 in
+    let h = read-done out _ _ _ one bytes L _ (omega arith) e in
     record {
-      size = not-unequal (length bytes) (bytesFor L) (neither-second (ltb 131071 L) (not (eqb (length bytes) (bytesFor L))) (h .0));
-      clean = h .1 .0;
-      good = let l = ltb-false 0 (place one bits) (h .1 .1 .0) in omega arith;
-      room = ltb-false (length out) (length (parentsOf bits)) (h .1 .1 .1 .0);
+      size = not-unequal (length bytes) (bytesFor L) (neither (ltb 131071 L) (not (eqb (length bytes) (bytesFor L))) (h .0) .1);
+      clean = h .1;
+      good = h .2;
+      room = ltb-false (length out) (length (parentsOf (bitsFrom bytes 0 L))) (h .3 .0);
     }
 
--- some tree gave them, and there is room for it
-record Given (bytes : List ℕ) (L : ℕ) (out : List ℕ) : Type 0 where
-  tree : Tree
-  small : nodes tree ≤ 65535
-  same : packed (lbs tree) ≡ bytes
-  length-is : L ≡ 2 * nodes tree + 1
-  room : nodes tree ≤ length out
-
-given : (bytes : List ℕ) (L : ℕ) (out : List ℕ) → AreBytes bytes → parentsOfString bytes L out .answer .code ≡ 0 → Given bytes L out
-given bytes L out b e =
-    let a = accepted bytes L out e in
-    let w = string-accepted (bitsFrom bytes 0 L) .0 (a .good) in
-    let t = w .0 in
-    let l = length-parents t in
-    record {
-      tree = t;
-      small = w .1;
-      same = ap packed (w .2) ∙ read-packed bytes L b (a .size) (a .clean);
-      length-is = sym (bits-length bytes 0 L) ∙ ap length (sym (w .2)) ∙ string-length t;
-      room = omega (arith, a .room, ap length (ap parentsOf (sym (w .2)) ∙ string-back t .1));
-    }
-
--- so reading them gives that tree
+-- bytes that a tree gives are read as its parent list
 given-read : (bytes : List ℕ) (L : ℕ) (out : List ℕ) (t : Tree) → nodes t ≤ 65535 → packed (lbs t) ≡ bytes → L ≡ 2 * nodes t + 1 → nodes t ≤ length out
     → parentsOfString bytes L out ≡ cameTo (counts (nodes t) 0) (written (parents t) out)
 given-read bytes L out t h e l room = ap₂ (λ xs n. parentsOfString xs n out) (sym e) l ∙ tree-read t out h room
 
+pub string-accepted-exactly : P.StringAcceptedExactly
+string-accepted-exactly bytes L out b = (there, λ w. ap (λ o. o .answer .code) (given-read bytes L out (w .0) (w .1) (w .2) (w .3) (w .4)))
+  where
+    there : parentsOfString bytes L out .answer .code ≡ 0
+        → (t : Tree) × (nodes t ≤ 65535) × (packed (lbs t) ≡ bytes) × (L ≡ 2 * nodes t + 1) × (nodes t ≤ length out)
+    there e =
+        let a = accepted bytes L out e in
+        let w = string-accepted (bitsFrom bytes 0 L) .0 (a .good) in
+        let t = w .0 in (
+          t,
+          w .1,
+          ap packed (w .2) ∙ read-packed bytes L b (a .size) (a .clean),
+          sym (bits-length bytes 0 L) ∙ ap length (sym (w .2)) ∙ string-length t,
+          omega (arith, a .room, length-parents t, ap length (ap parentsOf (sym (w .2)) ∙ string-back t .1)),
+        )
+
 pub read-then-written : P.ReadThenWritten
 read-then-written bytes L out bytes′ b room e =
-    let g = given bytes L out b e in
-    let t = g .tree in
-    let read = given-read bytes L out t (g .small) (g .same) (g .length-is) (g .room) in
+    let g = string-accepted-exactly bytes L out b .0 e in
+    let t = g .0 in
+    let read = given-read bytes L out t (g .1) (g .2) (g .3) (g .4) in
     let n = string-bytes t in
-    let m = ap length (g .same) in
+    let m = ap length (g .2) in
     ap (λ o. stringOfParents (take (o .answer .first) (o .lent)) bytes′) read
     ∙ ap (λ ps. stringOfParents ps bytes′) (take-at (parents t) (drop (length (parents t)) out) (nodes t) (length-parents t))
-    ∙ tree-written t bytes′ (g .small) (omega arith)
-    ∙ ap₂ (λ n xs. cameTo (counts n 1) (written xs bytes′)) (sym (g .length-is)) (g .same)
+    ∙ tree-written t bytes′ (g .1) (omega arith)
+    ∙ ap₂ (λ n xs. cameTo (counts n 1) (written xs bytes′)) (sym (g .3)) (g .2)
 
-pub string-accepted-exactly : P.StringAcceptedExactly
-string-accepted-exactly bytes L out b room = (
-  λ e. let g = given bytes L out b e in (g .tree, g .small, g .same, g .length-is),
-  λ w. ap (λ o. o .answer .code) (given-read bytes L out (w .0) (w .1) (w .2) (w .3) (omega (arith, w .1))),
-)
+-- ---- by the end of the tree
 
--- ---- of bytes that are refused
+-- the row of code 4 decides as that of the end
+row-by-end : {A : Type 0} (before : A) (rest : List Row) (a : Answer) (after : A) (bits : List Bit) (end : TreeEnd) → endOf end ≡ treeEnd bits 0
+    → settle before (4 at place one bits when ltb 0 (place one bits) ∷ rest) a after ≡ settle before (endRow end (length bits) ∷ rest) a after
+row-by-end before rest a after bits (Refused x) e =
+    let p = one-refused bits (sym e) in
+    let w = refused-within bits 0 (sym e) in
+    ap₂ (λ n b. settle before (4 at n when b ∷ rest) a after) p (lt-ltb 0 (place one bits) (omega arith))
+row-by-end before rest a after bits (Over q s) e =
+    let w = over-within bits 0 (sym e) in
+    elim (decLt q (length bits)) [
+      | yes l ↦
+          let p = one-past bits (sym e) l in
+          ap₂ (λ n b. settle before (4 at n when b ∷ rest) a after) (p ∙ sym (add-one q))
+          (lt-ltb 0 (place one bits) (omega arith) ∙ sym (unequal q (length bits) (λ z. omega arith)))
+      | no l ↦
+          let h : q ≡ length bits = omega arith in
+          let p = one-whole bits (sym e) h .0 in
+          settle-on before a after (4 at place one bits when ltb 0 (place one bits)) rest (le-ltb 0 (place one bits) (omega arith))
+          ∙ sym (settle-on before a after (endRow (Over q s) (length bits)) rest (equal q (length bits) h))
+    ]
 
--- code 4 goes with the place of the bits
-refused-place : (bytes : List ℕ) (L : ℕ) (out : List ℕ) → parentsOfString bytes L out .answer .code ≡ 4
-    → (1 ≤ place one (bitsFrom bytes 0 L)) × (parentsOfString bytes L out .answer .place ≡ place one (bitsFrom bytes 0 L))
+pub read-by-end : P.ReadByEnd
 unfolding parentsOfString
-refused-place bytes L out e =
-    let bits = bitsFrom bytes 0 L in
-    let upper : List Row = 2 at 0 when (ltb 131071 L || not (eqb (length bytes) (bytesFor L))) ∷ 5 at 0 when leftover bytes L ∷ [] in
-    let row : Row = 4 at place one bits when ltb 0 (place one bits) in
-    let lower : List Row = 1 at 0 when tooShort (parentsOf bits) out ∷ [] in
-    let h = row-held out (counts (length (parentsOf bits)) 0) (written (parentsOf bits) out) 4 upper row lower (omega arith) (omega arith) (omega arith) e in
-    (ltb-true 0 (place one bits) (h .0), h .1)
+read-by-end bytes L out end short size clean e =
+    settle-on _ _ _ _ _ (or-neither (ltb 131071 L) (not (eqb (length bytes) (bytesFor L))) (le-ltb 131071 L short) (equal (length bytes) (bytesFor L) size))
+    ∙ settle-on _ _ _ _ _ clean
+    ∙ row-by-end out _ _ _ (bitsFrom bytes 0 L) end e
+    ∙ ap (λ n. settle out (endRow end n ∷ 1 at 0 when tooShort (parentsOf (bitsFrom bytes 0 L)) out ∷ []) (counts (length (parentsOf (bitsFrom bytes 0 L))) 0) (written (parentsOf (bitsFrom bytes 0 L)) out))
+    (bits-length bytes 0 L)
+
+-- ---- damage
+
+-- a string alone is a list of strings
+alone : (t : Tree) (bs : List Bit) → lbs t ≡ bs → strings (t ∷ []) ≡ bs
+alone t bs e = append-nil (lbs t) ∙ e
+
+pub odd-never-read : P.OddNeverRead
+odd-never-read a b L out out′ e f m c =
+    let v = string-accepted (bitsFrom a 0 L) .0 (accepted a L out e .good) in
+    let w = string-accepted (bitsFrom b 0 L) .0 (accepted b L out′ f .good) in
+    let p = alone (v .0) (bitsFrom a 0 L) (v .2) in
+    let q = alone (w .0) (bitsFrom b 0 L) (w .2) in
+    never-odd (v .0 ∷ []) (w .0 ∷ []) (ap length p ∙ bits-length a 0 L ∙ sym (ap length q ∙ bits-length b 0 L)) refl m (ap₂ changed p q ∙ c)
 
 pub never-named-before : P.NeverNamedBefore
+unfolding parentsOfString
 never-named-before a b L out out′ j e f same l =
-    let w = refused-place b L out′ f in
-    let n = bits-length b 0 L in
-    let h = never-before one (bitsFrom a 0 L) (bitsFrom b 0 L) j (accepted a L out e .good) same (omega arith) (λ z. omega (arith, w .0)) in
-    omega (arith, h, w .1)
+    never-among out′ _ _ _ one b L _ (omega arith) (omega arith) f a j (accepted a L out e .good) same l

@@ -22,7 +22,7 @@ use Rattle.theory.proofs.Settled.{settled}
 use Rattle.theory.proofs.Levels.{level-law}
 use Rattle.theory.proofs.Bits.{prefix-free, strings-injective}
 use Rattle.theory.proofs.Parents.{parents-are, are-parents, parents-injective}
-use Rattle.theory.proofs.Lowest.{badEntry-is, parents-badEntry}
+use Rattle.theory.proofs.Lowest.{badEntry-is, no-bad, parents-badEntry}
 use Rattle.theory.proofs.Scan.{nodes-ones, place-good, good-place, place-is, place-unique, not-before}
 use Rattle.theory.proofs.Odd.{tree-counts, never-odd}
 use Rattle.theory.proofs.Navigate.{children-are, counted, parents-bits, parent-is, ones-before-is}
@@ -52,12 +52,8 @@ pub one-tree : P.OneTree
 one-tree t u e = parents-injective t u e
 
 pub lowest-entry : P.LowestEntry
-lowest-entry ps l = ((λ e. sound e (badEntry-is ps l), λ h. parents-badEntry ps h), λ n. low n (badEntry-is ps l))
+lowest-entry ps l = ((λ e. no-bad ps l e, λ h. parents-badEntry ps h), λ n. low n (badEntry-is ps l))
   where
-    sound : badEntry ps ≡ 0 → ((badEntry ps ≡ 0) × IsParents ps) ⊎ Lowest ps (badEntry ps) → IsParents ps
-    sound e (inl v) = v .1
-    sound e (inr v) = absurd (omega (arith, v .from))
-
     low : (badEntry ps ≡ 0 → ⊥) → ((badEntry ps ≡ 0) × IsParents ps) ⊎ Lowest ps (badEntry ps) → Lowest ps (badEntry ps)
     low n (inl v) = absurd (n (v .0))
     low n (inr v) = v

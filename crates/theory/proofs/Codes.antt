@@ -2,22 +2,40 @@
 use mathlib.Core.Path.{_≡_, refl, sym, ap, _∙_}
 use mathlib.Core.Bool.{Bool, true, false, true≢false, not, _||_}
 use mathlib.Core.List.{List, [], _∷_, _++_}
-use Prim.Native.Nat.{ℕ}
-use borrow.Author.Tests.{not-false, eqb-true}
-use lib.Dec.{eqb}
+use Prim.Native.Nat.{ℕ, _≤_}
+use native.Mathlib.Omega.{arith}
+use borrow.Author.Tests.{not-false, eqb-true, ltb-false}
+use lib.Dec.{ltb, eqb}
+use lib.ListN.{length}
+use Rattle.meaning.specs.Trees.{Tree, nodes}
+use Rattle.meaning.specs.Parents.{parents, badEntry}
 use Rattle.meaning.specs.declared.Answer.{Answer}
 use Rattle.meaning.specs.Answers.{Row, settle}
+use Rattle.meaning.specs.Calls.{outside, wrongCount}
 use Rattle.theory.specs.Rows.{NoneHolds}
 use Rattle.theory.proofs.Settled.{settle-here, settle-on, settle-none}
+use Rattle.theory.proofs.Parents.{are-parents}
+use Rattle.theory.proofs.Lowest.{no-bad}
+use Rattle.theory.proofs.Forms.{length-parents}
 
 -- ---- tests, read back
 
-pub neither-second : (s t : Bool) → (s || t) ≡ false → t ≡ false
-neither-second true t e = absurd (true≢false e)
-neither-second false t e = e
+pub neither : (s t : Bool) → (s || t) ≡ false → (s ≡ false) × (t ≡ false)
+neither true t e = absurd (true≢false e)
+neither false t e = (refl, e)
 
 pub not-unequal : (x y : ℕ) → not (eqb x y) ≡ false → x ≡ y
 not-unequal x y e = eqb-true x y (not-false (eqb x y) e)
+
+not-outside : (low high x : ℕ) → outside low high x ≡ false → (low ≤ x) × (x ≤ high)
+not-outside low high x e = let n = neither (ltb x low) (ltb high x) e in (ltb-false x low (n .0), ltb-false high x (n .1))
+
+-- a list that neither its count nor an entry refuses is some tree's
+pub listed-tree : (ps : List ℕ) → wrongCount ps ≡ false → ltb 0 (badEntry ps) ≡ false → (t : Tree) × (nodes t ≤ 65535) × (parents t ≡ ps)
+listed-tree ps c b =
+    let size = not-outside 1 65535 (length ps) c in
+    let w = are-parents ps (no-bad ps (size .0) (let l = ltb-false 0 (badEntry ps) b in omega arith)) in
+    (w .0, omega (arith, size .1, length-parents (w .0), ap length (w .1)), w .1)
 
 -- ---- rows
 

@@ -128,6 +128,13 @@ pub badEntry-is : (ps : List ℕ) → 1 ≤ length ps → ((badEntry ps ≡ 0) �
 badEntry-is [] h = absurd (omega arith)
 badEntry-is (p ∷ qs) h = says p qs
 
+pub no-bad : (ps : List ℕ) → 1 ≤ length ps → badEntry ps ≡ 0 → IsParents ps
+no-bad ps h e = go (badEntry-is ps h)
+  where
+    go : Says ps (badEntry ps) → IsParents ps
+    go (inl v) = v .1
+    go (inr v) = absurd (omega (arith, v .from))
+
 pub parents-badEntry : (ps : List ℕ) → IsParents ps → badEntry ps ≡ 0
 parents-badEntry ps h = go (badEntry-is ps (h .some))
   where

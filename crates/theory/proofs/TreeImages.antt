@@ -1,6 +1,6 @@
 -- Images of trees: what is read back is the tree, which bytes are an image, and how many blocks there are.
 use mathlib.Core.Path.{_≡_, refl, sym, ap, ap₂, _∙_, subst}
-use mathlib.Core.Logic.{_↔_, _⊎_, inl, inr}
+use mathlib.Core.Logic.{_↔_}
 use mathlib.Core.Bool.{true, _&&_}
 use mathlib.Core.List.{List, []}
 use Prim.Native.Nat.{ℕ, zero, suc, _+_, _-_, _*_, _/_, _%_, _^_, _≤_, _<_}
@@ -11,7 +11,7 @@ use lib.ListN.{length, getD, take, drop}
 use lib.Seq.{getD-append-add, getD-take, getD-drop, ext-getD, length-take-le}
 use Rattle.meaning.specs.Trees.{Tree, nodes}
 use Rattle.meaning.specs.Strings.{Bit, O, ones, lbs, R1, R0, parentsOf, stringOf, woven}
-use Rattle.meaning.specs.Parents.{parents, IsParents, badEntry, Lowest}
+use Rattle.meaning.specs.Parents.{parents, IsParents, badEntry}
 use Rattle.meaning.specs.Bytes.{bit, bitAt, bytesOf}
 use Rattle.meaning.specs.Blocks.{le32, sealed, same, blocksIn, wrongBlock}
 use Rattle.meaning.specs.Image.{stringBlocks, imageOfParts, imageOfString, image, headerWord, stringIn, parentsIn, isTree, isImage}
@@ -19,7 +19,7 @@ use Rattle.theory.specs.Layout.{Runs, AreBytes, wordAt, startR0, total, 
 pub use Rattle.theory.specs.Layout.{bitPlace}
 use Rattle.theory.proofs.Navigate.{parents-bits}
 use Rattle.theory.proofs.Parents.{are-parents, parents-are, parents-injective}
-use Rattle.theory.proofs.Lowest.{badEntry-is, parents-badEntry}
+use Rattle.theory.proofs.Lowest.{no-bad, parents-badEntry}
 use Rattle.theory.proofs.Forms.{length-parents, length-R1, length-R0, string-parents, string-parts, tree-of-parts, tree-runs, tree-rule, marks-count, marks-same}
 use Rattle.theory.proofs.Digits.{bytesOf-bit, words-at, wordAt-take}
 use Rattle.theory.proofs.Sealing.{padded-at, sealed-at, and-both, same-refl, same-eq}
@@ -147,10 +147,6 @@ image-injective t u h g e = parents-injective t u (sym (parents-in t h) ∙ ap p
 
 -- ---- which bytes are an image
 
-no-bad : (ps : List ℕ) → badEntry ps ≡ 0 → ((badEntry ps ≡ 0) × IsParents ps) ⊎ Lowest ps (badEntry ps) → IsParents ps
-no-bad ps e (inl p) = p .1
-no-bad ps e (inr l) = absurd (omega (arith, l .from))
-
 pub is-tree : (ps : List ℕ) → isTree ps ≡ true ↔ (IsParents ps × (length ps ≤ 65535))
 unfolding isTree
 is-tree ps = (there, back)
@@ -159,7 +155,7 @@ is-tree ps = (there, back)
     there e =
         let p = and-both (leb 1 (length ps) && leb (length ps) 65535) (eqb (badEntry ps) 0) e in
         let q = and-both (leb 1 (length ps)) (leb (length ps) 65535) (p .0) in
-        (no-bad ps (eqb-true (badEntry ps) 0 (p .1)) (badEntry-is ps (leb-true 1 (length ps) (q .0))), leb-true (length ps) 65535 (q .1))
+        (no-bad ps (leb-true 1 (length ps) (q .0)) (eqb-true (badEntry ps) 0 (p .1)), leb-true (length ps) 65535 (q .1))
 
     back : IsParents ps × (length ps ≤ 65535) → isTree ps ≡ true
     back p = ap₂ _&&_ (ap₂ _&&_ (le-leb 1 (length ps) (p .0 .some)) (le-leb (length ps) 65535 (p .1))) (eq-eqb (badEntry ps) 0 (parents-badEntry ps (p .0)))

@@ -1,0 +1,1 @@
+// What sealing, the check, reading back, questions and listings promise of images; no code.
