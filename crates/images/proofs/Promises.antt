@@ -71,18 +71,15 @@ module _ (t : Tree) (h : nodes t ≤ 65535) where
 pub list-sealed-exactly : P.ListSealedExactly
 unfolding imageOfParents
 list-sealed-exactly ps bytes = (
-  there,
+  λ e.
+      let n = none-held bytes _ _ 0 _ (omega arith) e .0 in
+      let w = listed-tree ps (n .0) (n .1 .0) in
+      let t = w .0 in
+      let room = ltb-false (length bytes) (length (imageOfString (stringOf ps))) (n .1 .1 .0) in
+      let same = ap (λ qs. length (imageOfString (stringOf qs))) (sym (w .2)) ∙ ap length (image-back t (w .1) .0) in
+      (t, w .1, w .2, omega arith),
   λ w. ap (λ qs. imageOfParents qs bytes .answer .code) (sym (w .2)) ∙ ap (λ o. o .answer .code) (tree-sealed (w .0) (w .1) bytes (w .3)),
 )
-  where
-    there : imageOfParents ps bytes .answer .code ≡ 0 → (t : Tree) × (nodes t ≤ 65535) × (parents t ≡ ps) × (length (image t) ≤ length bytes)
-    there e =
-        let n = none-held bytes _ _ 0 _ (omega arith) e .0 in
-        let w = listed-tree ps (n .0) (n .1 .0) in
-        let t = w .0 in
-        let room = ltb-false (length bytes) (length (imageOfString (stringOf ps))) (n .1 .1 .0) in
-        let same = ap (λ qs. length (imageOfString (stringOf qs))) (sym (w .2)) ∙ ap length (image-back t (w .1) .0) in
-        (t, w .1, w .2, omega arith)
 
 pub checked-of-tree : P.CheckedOfTree
 unfolding checkImage checkRows
@@ -125,14 +122,14 @@ given-read bytes out t h e room = ap (λ xs. parentsOfImage xs out) (sym e) ∙ 
 
 pub image-read-exactly : P.ImageReadExactly
 unfolding parentsOfImage
-image-read-exactly bytes out = (there, λ w. ap (λ o. o .answer .code) (given-read bytes out (w .0) (w .1) (w .2) (w .3)))
-  where
-    there : parentsOfImage bytes out .answer .code ≡ 0 → (t : Tree) × (nodes t ≤ 65535) × (image t ≡ bytes) × (nodes t ≤ length out)
-    there e =
-        let d = rows-done out _ _ bytes false _ (omega arith) e in
-        let w = d .1 in
-        let n = ap (λ xs. length (parentsIn xs)) (sym (w .2)) ∙ count (w .0) (w .1) in
-        (w .0, w .1, w .2, omega (arith, ltb-false (length out) (length (parentsIn bytes)) (d .2 .0)))
+image-read-exactly bytes out = (
+  λ e.
+      let d = rows-done out _ _ bytes false _ (omega arith) e in
+      let w = d .1 in
+      let n = ap (λ xs. length (parentsIn xs)) (sym (w .2)) ∙ count (w .0) (w .1) in
+      (w .0, w .1, w .2, omega (arith, ltb-false (length out) (length (parentsIn bytes)) (d .2 .0))),
+  λ w. ap (λ o. o .answer .code) (given-read bytes out (w .0) (w .1) (w .2) (w .3)),
+)
 
 -- the parent list that is read
 read-parents : (bytes out : List ℕ) (t : Tree) → parentsOfImage bytes out ≡ cameTo (counts (nodes t) 0) (written (parents t) out)
@@ -238,30 +235,27 @@ asked-of-tree t qs out h a =
 pub asked-exactly : P.AskedExactly
 unfolding askImage
 asked-exactly bytes qs out = (
-  there,
+  λ e.
+      let ps = parentsIn bytes in
+      let d = rows-done out _ _ bytes (wrongQuestions qs) _ (omega arith) e in
+      let w = d .1 in
+      let n : nodes (w .0) ≡ length ps = sym (ap (λ xs. length (parentsIn xs)) (sym (w .2)) ∙ count (w .0) (w .1)) in
+      let right = neither (not (eqb (length qs % 3) 0)) (ltb 256 (length qs / 3)) (d .0) in
+      let none = ltb-false 0 (notAllowed (length ps) (questions qs) 0) (d .2 .0) in
+      let room = ltb-false (length out) (length (map (answerTo ps) (questions qs))) (d .2 .1 .0) in
+      let size = length-map (questions qs) (answerTo ps) in (
+        w .0,
+        w .1,
+        w .2,
+        record {
+          threes = not-unequal (length qs % 3) 0 (right .0);
+          few = ltb-false 256 (length qs / 3) (right .1);
+          allowed = ap (λ k. notAllowed k (questions qs) 0) n ∙ omega arith;
+          room = omega arith;
+        },
+      ),
   λ w. ap (λ xs. askImage xs qs out .answer .code) (sym (w .2)) ∙ ap (λ o. o .answer .code) (asked (w .0) qs out (w .1) (w .3)),
 )
-  where
-    there : askImage bytes qs out .answer .code ≡ 0 → (t : Tree) × (nodes t ≤ 65535) × (image t ≡ bytes) × Askable (nodes t) qs out
-    there e =
-        let ps = parentsIn bytes in
-        let d = rows-done out _ _ bytes (wrongQuestions qs) _ (omega arith) e in
-        let w = d .1 in
-        let n : nodes (w .0) ≡ length ps = sym (ap (λ xs. length (parentsIn xs)) (sym (w .2)) ∙ count (w .0) (w .1)) in
-        let right = neither (not (eqb (length qs % 3) 0)) (ltb 256 (length qs / 3)) (d .0) in
-        let none = ltb-false 0 (notAllowed (length ps) (questions qs) 0) (d .2 .0) in
-        let room = ltb-false (length out) (length (map (answerTo ps) (questions qs))) (d .2 .1 .0) in
-        let size = length-map (questions qs) (answerTo ps) in (
-          w .0,
-          w .1,
-          w .2,
-          record {
-            threes = not-unequal (length qs % 3) 0 (right .0);
-            few = ltb-false 256 (length qs / 3) (right .1);
-            allowed = ap (λ k. notAllowed k (questions qs) 0) n ∙ omega arith;
-            room = omega arith;
-          },
-        )
 
 -- ---- listings
 
@@ -277,6 +271,10 @@ measured : (d n : ℕ) (pairs out : List ℕ)
     → settle out (9 at d when ltb 0 d ∷ 1 at 0 when tooShort pairs out ∷ []) (counts n 0) (written pairs out) ≡ measuredOutcome (sized d n) pairs out
 measured zero n pairs out = settle-on _ _ _ _ _ (le-ltb 0 0 (omega arith))
 measured (suc y) n pairs out = settle-here _ _ _ _ _ (lt-ltb 0 (suc y) (omega arith))
+
+named : (d n : ℕ) (pairs out : List ℕ) → (d ≡ 0 → ⊥) → measuredOutcome (sized d n) pairs out ≡ cameTo (refusedWith 9 d) out
+named zero n pairs out h = absurd (h refl)
+named (suc y) n pairs out h = refl
 
 pub listed-by-measure : P.ListedByMeasure
 unfolding listImage sizeOf
@@ -309,36 +307,30 @@ unfolding sizeOf
 too-deep-is-named t x out h from to deeper =
     let pairs = listing 65 (parents t) x 0 in
     let own = own-listing t x from to in
-    (deep pairs, listed-by-measure t x out h from to ∙ named (deep pairs) refl, own .2 (λ e. deeper (own .0 .0 e)))
-  where
-    named : (d : ℕ) → deep (listing 65 (parents t) x 0) ≡ d → measuredOutcome (sized d (length (listing 65 (parents t) x 0) / 2)) (listing 65 (parents t) x 0) out ≡ cameTo (refusedWith 9 d) out
-    named zero e = absurd (deeper (own-listing t x from to .0 .0 e))
-    named (suc y) e = refl
+    let some : deep pairs ≡ 0 → ⊥ = λ e. deeper (own .0 .0 e) in
+    (deep pairs, listed-by-measure t x out h from to ∙ named (deep pairs) (length pairs / 2) pairs out some, own .2 some)
 
 pub listed-exactly : P.ListedExactly
 unfolding listImage
 listed-exactly bytes x out = (
-  there,
+  λ e.
+      let ps = parentsIn bytes in
+      let d = rows-done out _ _ bytes false _ (omega arith) e in
+      let w = d .1 in
+      let t = w .0 in
+      let v = nodeAt t x in
+      let read : ps ≡ parents t = ap parentsIn (sym (w .2)) ∙ parents-in t (w .1) in
+      let n = ap length read ∙ length-parents t in
+      let node = node-is (length ps) x (not-false (isNode (length ps) x) (d .2 .0)) in
+      let own = own-listing t x (node .0) (omega (arith, node .1)) in
+      let same = ap (λ qs. listing 65 qs x 0) read in
+      let none : deep (listing 65 (parents t) x 0) ≡ 0 = ap deep (sym same) ∙ (let l = ltb-false 0 (deep (listing 65 ps x 0)) (d .2 .1 .0) in omega arith) in
+      let size = lists-length t (depth v) (everything v) (listing 65 (parents t) x 0) (own .1 none) in
+      let room = ltb-false (length out) (length (listing 65 ps x 0)) (d .2 .1 .1 .0) in (
+        t,
+        w .1,
+        w .2,
+        record { from = node .0; to = omega (arith, node .1); shallow = own .0 .0 none; room = omega (arith, ap length same) },
+      ),
   λ w. ap (λ xs. listImage xs x out .answer .code) (sym (w .2)) ∙ ap (λ o. o .answer .code) (listed-of-tree (w .0) x out (w .1) (w .3) .1),
 )
-  where
-    there : listImage bytes x out .answer .code ≡ 0 → (t : Tree) × (nodes t ≤ 65535) × (image t ≡ bytes) × Listable t x out
-    there e =
-        let ps = parentsIn bytes in
-        let d = rows-done out _ _ bytes false _ (omega arith) e in
-        let w = d .1 in
-        let t = w .0 in
-        let v = nodeAt t x in
-        let read : ps ≡ parents t = ap parentsIn (sym (w .2)) ∙ parents-in t (w .1) in
-        let n = ap length read ∙ length-parents t in
-        let node = node-is (length ps) x (not-false (isNode (length ps) x) (d .2 .0)) in
-        let own = own-listing t x (node .0) (omega (arith, node .1)) in
-        let same = ap (λ qs. listing 65 qs x 0) read in
-        let none : deep (listing 65 (parents t) x 0) ≡ 0 = ap deep (sym same) ∙ (let l = ltb-false 0 (deep (listing 65 ps x 0)) (d .2 .1 .0) in omega arith) in
-        let size = lists-length t (depth v) (everything v) (listing 65 (parents t) x 0) (own .1 none) in
-        let room = ltb-false (length out) (length (listing 65 ps x 0)) (d .2 .1 .1 .0) in (
-          t,
-          w .1,
-          w .2,
-          record { from = node .0; to = omega (arith, node .1); shallow = own .0 .0 none; room = omega (arith, ap length same) },
-        )

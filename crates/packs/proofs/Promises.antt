@@ -142,33 +142,28 @@ trees-of {wrong} {bytes} {L} {k} d =
 
 pub pack-accepted-exactly : P.PackAcceptedExactly
 unfolding splitPack packRows
-pack-accepted-exactly bytes L k firsts sizesOut b = (there, back)
-  where
-    there : splitPack bytes L k firsts sizesOut .answer .code ≡ 0
-        → (ts : List Tree) × FitPack ts × (packed (strings ts) ≡ bytes) × (L ≡ length (strings ts)) × (k ≡ length ts) × (k ≤ length firsts) × (k ≤ length sizesOut)
-    there e =
-        let bits = bitsFrom bytes 0 L in
-        let d = pack-done (firsts, sizesOut) _ _ _ bytes L k _ (omega arith) e in
-        let r = trees-of d in
-        let few = neither (ltb 131071 L || not (eqb (length bytes) (bytesFor L))) (ltb 256 k) (d .right) in
-        let size = neither (ltb 131071 L) (not (eqb (length bytes) (bytesFor L))) (few .0) in
-        let room = neither (tooShort (starts bits) firsts) (tooShort (sizes bits) sizesOut) (d .others .0) in (
-          r .trees,
-          record { small = r .small; few = omega (arith, ltb-false 256 k (few .1), r .count); short = omega (arith, ltb-false 131071 L (size .0), r .bits) },
-          ap packed (r .same) ∙ read-packed bytes L b (not-unequal (length bytes) (bytesFor L) (size .1)) (d .clean),
-          r .bits,
-          r .count,
-          omega (arith, ltb-false (length firsts) (length (starts bits)) (room .0), starts-count bits, d .count),
-          omega (arith, ltb-false (length sizesOut) (length (sizes bits)) (room .1), d .count),
-        )
-
-    back : (ts : List Tree) × FitPack ts × (packed (strings ts) ≡ bytes) × (L ≡ length (strings ts)) × (k ≡ length ts) × (k ≤ length firsts) × (k ≤ length sizesOut)
-        → splitPack bytes L k firsts sizesOut .answer .code ≡ 0
-    back w =
-        let ts = w .0 in
-        ap (λ xs. splitPack xs L k firsts sizesOut .answer .code) (sym (w .2))
-        ∙ ap₂ (λ l n. splitPack (packed (strings ts)) l n firsts sizesOut .answer .code) (w .3) (w .4)
-        ∙ ap (λ o. o .answer .code) (split-gives-trees ts firsts sizesOut (w .1) (omega (arith, w .4, w .5)) (omega (arith, w .4, w .6)))
+pack-accepted-exactly bytes L k firsts sizesOut b = (
+  λ e.
+      let bits = bitsFrom bytes 0 L in
+      let d = pack-done (firsts, sizesOut) _ _ _ bytes L k _ (omega arith) e in
+      let r = trees-of d in
+      let few = neither (ltb 131071 L || not (eqb (length bytes) (bytesFor L))) (ltb 256 k) (d .right) in
+      let size = neither (ltb 131071 L) (not (eqb (length bytes) (bytesFor L))) (few .0) in
+      let room = neither (tooShort (starts bits) firsts) (tooShort (sizes bits) sizesOut) (d .others .0) in (
+        r .trees,
+        record { small = r .small; few = omega (arith, ltb-false 256 k (few .1), r .count); short = omega (arith, ltb-false 131071 L (size .0), r .bits) },
+        ap packed (r .same) ∙ read-packed bytes L b (not-unequal (length bytes) (bytesFor L) (size .1)) (d .clean),
+        r .bits,
+        r .count,
+        omega (arith, ltb-false (length firsts) (length (starts bits)) (room .0), starts-count bits, d .count),
+        omega (arith, ltb-false (length sizesOut) (length (sizes bits)) (room .1), d .count),
+      ),
+  λ w.
+      let ts = w .0 in
+      ap (λ xs. splitPack xs L k firsts sizesOut .answer .code) (sym (w .2))
+      ∙ ap₂ (λ l n. splitPack (packed (strings ts)) l n firsts sizesOut .answer .code) (w .3) (w .4)
+      ∙ ap (λ o. o .answer .code) (split-gives-trees ts firsts sizesOut (w .1) (omega (arith, w .4, w .5)) (omega (arith, w .4, w .6))),
+)
 
 -- ---- joining
 
@@ -238,52 +233,45 @@ join-adds-tree pack ts t h r =
 
 pub joined-exactly : P.JoinedExactly
 unfolding joinPack packRows
-joined-exactly pack L k ps = (there, back)
-  where
-    there : joinPack pack L k ps .answer .code ≡ 0
-        → (ts : List Tree) × (t : Tree) × HoldsPack pack ts × RoomToJoin pack ts t × (L ≡ length (strings ts)) × (k ≡ length ts) × (parents t ≡ ps)
-    there e =
-        let bits = bitsFrom pack 0 L in
-        let d = pack-done pack _ _ _ pack L k _ (omega arith) e in
-        let r = trees-of d in
-        let ts = r .trees in
-        let l = r .bits in
-        let c = r .count in
-        let fits = neither (wrongCount ps || ltb 131071 L || ltb (length pack) (bytesFor L) || ltb 255 k) (ltb 131071 (L + (2 * length ps + 1))) (d .right) in
-        let few = neither (wrongCount ps || ltb 131071 L || ltb (length pack) (bytesFor L)) (ltb 255 k) (fits .0) in
-        let bytes = neither (wrongCount ps || ltb 131071 L) (ltb (length pack) (bytesFor L)) (few .0) in
-        let short = neither (wrongCount ps) (ltb 131071 L) (bytes .0) in
-        let w = listed-tree ps (short .0) (d .others .0) in
-        let t = w .0 in
-        let n : length ps ≡ nodes t = ap length (sym (w .2)) ∙ length-parents t in
-        let room = ltb-false (length pack) (length (packed (bits ++ stringOf ps))) (d .others .1 .0) in
-        let size : length (packed (bits ++ stringOf ps)) ≡ bytesFor (longer ts t)
-        = packed-length (bits ++ stringOf ps)
-        ∙ ap (λ m. bytesFor m) (length-append bits (stringOf ps) ∙ ap₂ _+_ (ap length (sym (r .same))) (ap length (ap stringOf (sym (w .2)) ∙ string-parents t) ∙ string-length t)) in
-        let k≤ = ltb-false 255 k (few .1) in
-        let L≤ = ltb-false 131071 L (short .1) in
-        let new≤ = ltb-false 131071 (L + (2 * length ps + 1)) (fits .1) in
-        let old≤ = ltb-false (length pack) (bytesFor L) (bytes .1) in (
-          ts,
-          t,
-          record {
-            fits = record { small = r .small; few = omega arith; short = omega arith };
-            room = omega arith;
-            same = ap (bitsFrom pack 0) (sym l) ∙ sym (r .same);
-            clean = ap (leftover pack) (sym l) ∙ d .clean;
-          },
-          record { small = w .1; few = omega arith; short = omega arith; room = omega arith },
-          l,
-          c,
-          w .2,
-        )
-
-    back : (ts : List Tree) × (t : Tree) × HoldsPack pack ts × RoomToJoin pack ts t × (L ≡ length (strings ts)) × (k ≡ length ts) × (parents t ≡ ps)
-        → joinPack pack L k ps .answer .code ≡ 0
-    back w =
-        ap (λ qs. joinPack pack L k qs .answer .code) (sym (w .6))
-        ∙ ap₂ (λ l n. joinPack pack l n (parents (w .1)) .answer .code) (w .4) (w .5)
-        ∙ ap (λ o. o .answer .code) (joined pack (w .0) (w .1) (w .2) (w .3))
+joined-exactly pack L k ps = (
+  λ e.
+      let bits = bitsFrom pack 0 L in
+      let d = pack-done pack _ _ _ pack L k _ (omega arith) e in
+      let r = trees-of d in
+      let ts = r .trees in
+      let l = r .bits in
+      let c = r .count in
+      let fits = neither (wrongCount ps || ltb 131071 L || ltb (length pack) (bytesFor L) || ltb 255 k) (ltb 131071 (L + (2 * length ps + 1))) (d .right) in
+      let few = neither (wrongCount ps || ltb 131071 L || ltb (length pack) (bytesFor L)) (ltb 255 k) (fits .0) in
+      let bytes = neither (wrongCount ps || ltb 131071 L) (ltb (length pack) (bytesFor L)) (few .0) in
+      let w = listed-tree ps (neither (wrongCount ps) (ltb 131071 L) (bytes .0) .0) (d .others .0) in
+      let t = w .0 in
+      let n : length ps ≡ nodes t = ap length (sym (w .2)) ∙ length-parents t in
+      let joinedBits : length (bits ++ stringOf ps) ≡ longer ts t
+      = length-append bits (stringOf ps) ∙ ap₂ _+_ (ap length (sym (r .same))) (ap length (ap stringOf (sym (w .2)) ∙ string-parents t) ∙ string-length t) in
+      let size = packed-length (bits ++ stringOf ps) ∙ ap (λ m. bytesFor m) joinedBits in
+      let mostTrees = ltb-false 255 k (few .1) in
+      let mostBits = ltb-false 131071 (L + (2 * length ps + 1)) (fits .1) in
+      let old = ltb-false (length pack) (bytesFor L) (bytes .1) in
+      let new = ltb-false (length pack) (length (packed (bits ++ stringOf ps))) (d .others .1 .0) in (
+        ts,
+        t,
+        record {
+          fits = record { small = r .small; few = omega arith; short = omega arith };
+          room = omega arith;
+          same = ap (bitsFrom pack 0) (sym l) ∙ sym (r .same);
+          clean = ap (leftover pack) (sym l) ∙ d .clean;
+        },
+        record { small = w .1; few = omega arith; short = omega arith; room = omega arith },
+        l,
+        c,
+        w .2,
+      ),
+  λ w.
+      ap (λ qs. joinPack pack L k qs .answer .code) (sym (w .6))
+      ∙ ap₂ (λ l n. joinPack pack l n (parents (w .1)) .answer .code) (w .4) (w .5)
+      ∙ ap (λ o. o .answer .code) (joined pack (w .0) (w .1) (w .2) (w .3)),
+)
 
 -- ---- joining one by one
 

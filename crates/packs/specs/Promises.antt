@@ -106,27 +106,35 @@ JoinThenSplit = (ts : List Tree) (pack firsts sizes : List ℕ) → FitPack ts �
     let bytes = take (bytesFor L) (joinAll pack [] ts) in
     (bytes ≡ packed (strings ts)) × (splitPack bytes L (length ts) firsts sizes ≡ splitInto ts firsts sizes)
 
--- ---- What is refused, by what is found: where the sizes are right, a call comes to the numbers of what the pack is refused for, or to the rest of its tests.
+-- ---- By what a pack is refused for.
 
-abbrev pub SplitByHeld : Type 0
-SplitByHeld = (bytes : List ℕ) (L k : ℕ) (firsts sizesOut : List ℕ) → ToSplit.Sized (length bytes) L k
-    → let bits = bitsFrom bytes 0 L in
-    splitPack bytes L k firsts sizesOut
-    ≡ heldOutcome (firstOf (packRows bytes L k)) (firsts, sizesOut)
-    (settle (firsts, sizesOut)
+-- the last row of splitting, and then the starts and sizes
+abbrev pub splitLast : List ℕ → ℕ → ℕ → List ℕ → List ℕ → Outcome (List ℕ × List ℕ)
+splitLast bytes L k firsts sizesOut =
+    let bits = bitsFrom bytes 0 L in
+    settle (firsts, sizesOut)
     (1 at 0 when (tooShort (starts bits) firsts || tooShort (sizes bits) sizesOut) ∷ [])
     (counts L k)
-    (written (starts bits) firsts, written (sizes bits) sizesOut))
+    (written (starts bits) firsts, written (sizes bits) sizesOut)
 
-abbrev pub JoinByHeld : Type 0
-JoinByHeld = (pack : List ℕ) (L k : ℕ) (ps : List ℕ) → ToJoin.Sized (length pack) L k (length ps)
-    → let joined = packed (bitsFrom pack 0 L ++ stringOf ps) in
-    joinPack pack L k ps
-    ≡ heldOutcome (firstOf (packRows pack L k)) pack
-    (settle pack
+-- the last rows of joining, and then the longer pack
+abbrev pub joinLast : List ℕ → ℕ → ℕ → List ℕ → Outcome (List ℕ)
+joinLast pack L k ps =
+    let joined = packed (bitsFrom pack 0 L ++ stringOf ps) in
+    settle pack
     (3 at badEntry ps when ltb 0 (badEntry ps) ∷ 1 at 0 when tooShort joined pack ∷ [])
     (counts (L + (2 * length ps + 1)) (k + 1))
-    (written joined pack))
+    (written joined pack)
+
+-- where the sizes are right, splitting comes to the numbers of what the pack is refused for
+abbrev pub SplitByHeld : Type 0
+SplitByHeld = (bytes : List ℕ) (L k : ℕ) (firsts sizes : List ℕ) → ToSplit.Sized (length bytes) L k
+    → splitPack bytes L k firsts sizes ≡ heldOutcome (firstOf (packRows bytes L k)) (firsts, sizes) (splitLast bytes L k firsts sizes)
+
+-- and so does joining
+abbrev pub JoinByHeld : Type 0
+JoinByHeld = (pack : List ℕ) (L k : ℕ) (ps : List ℕ) → ToJoin.Sized (length pack) L k (length ps)
+    → joinPack pack L k ps ≡ heldOutcome (firstOf (packRows pack L k)) pack (joinLast pack L k ps)
 
 -- where no leftover bit is set, these are the numbers of what the scan finds
 abbrev pub HeldByScan : Type 0

@@ -98,7 +98,6 @@ pub record Promises : Type 1 where
   pub string-accepted : Strings.StringAcceptedExactly
   -- code 4 names the first p whose first p bits begin no string; L + 1 if there is no such p
   pub refused-there : Theory.RefusedThere
-  pub read-by-end : Strings.ReadByEnd
   -- R1 has n bits, R0 n + 1; both have m ones, where m is one more than the number of nodes with children
   pub part-counts : Theory.PartCounts
   -- and they give the tree back
@@ -121,7 +120,6 @@ pub record Promises : Type 1 where
   pub bytes-accepted : Theory.ImageAccepted
   pub image-accepted : Images.ImageAcceptedExactly
   pub checked-of-tree : Images.CheckedOfTree
-  pub checked-by-found : Images.CheckedByFound
   pub image-read : Images.ImageReadExactly
   -- two trees never give one image
   pub accepted-is-sealed : Images.AcceptedIsSealed
@@ -143,7 +141,6 @@ pub record Promises : Type 1 where
   pub listed-exactly : Images.ListedExactly
   -- code 9 names the first node in listing order at depth 64
   pub too-deep-is-named : Images.TooDeepIsNamed
-  pub listed-by-measure : Images.ListedByMeasure
   -- Demand 3. Strings end to end: no other list gives those bits, and no tree's string is the beginning of another tree's
   pub one-list : Theory.OneList
   pub none-begins : Theory.NoneBegins
@@ -158,10 +155,6 @@ pub record Promises : Type 1 where
   -- joining adds one tree: earlier bits stay, new leftover bits are zero, bytes after the new last one stay; it answers the new length and k + 1
   pub join-adds-tree : Packs.JoinAddsTree
   pub join-then-split : Packs.JoinThenSplit
-  -- the numbers of what a pack is refused for
-  pub split-by-held : Packs.SplitByHeld
-  pub join-by-held : Packs.JoinByHeld
-  pub held-by-scan : Packs.HeldByScan
   -- with the number of trees known, changing an odd number of bits never yields bits that are accepted with that number
   pub odd-changes : Theory.OddChanges
   pub odd-never-split : Packs.OddNeverSplit
@@ -173,6 +166,14 @@ pub record Promises : Type 1 where
   pub string-never-before : Strings.NeverNamedBefore
   pub pack-never-before : Packs.NeverNamedBefore
   pub join-never-before : Packs.JoinNeverNamesBefore
+  -- For any answer that is an enum a definition gives document 01's number and values for each case, and a call comes to them:
+  -- what the check finds, the end of a string's tree, what a pack is refused for and what its scan finds, what a listing takes
+  pub checked-by-found : Images.CheckedByFound
+  pub read-by-end : Strings.ReadByEnd
+  pub split-by-held : Packs.SplitByHeld
+  pub join-by-held : Packs.JoinByHeld
+  pub held-by-scan : Packs.HeldByScan
+  pub listed-by-measure : Images.ListedByMeasure
   -- The outline prints n, m and blocks, then, if n is at most 4,000, a line for each node in listing order: number, depth, degree
   pub each-node-has-its-line : Outline.EachNodeHasItsLine
   pub only-the-heading : Outline.OnlyTheHeading

@@ -79,18 +79,15 @@ written-then-read t bytes out h room roomOut =
 pub list-written-exactly : P.ListWrittenExactly
 unfolding stringOfParents
 list-written-exactly ps bytes = (
-  there,
+  λ e.
+      let h = none-held bytes _ _ 0 _ (omega arith) e .0 in
+      let w = listed-tree ps (h .0) (h .1 .0) in
+      let t = w .0 in
+      let room = ltb-false (length bytes) (length (packed (stringOf ps))) (h .1 .1 .0) in
+      let same = ap (λ bs. length (packed bs)) (sym (string-parents t) ∙ ap stringOf (w .2)) in
+      (t, w .1, w .2, omega (arith, string-bytes t)),
   λ w. ap (λ qs. stringOfParents qs bytes .answer .code) (sym (w .2)) ∙ ap (λ o. o .answer .code) (tree-written (w .0) bytes (w .1) (w .3)),
 )
-  where
-    there : stringOfParents ps bytes .answer .code ≡ 0 → (t : Tree) × (nodes t ≤ 65535) × (parents t ≡ ps) × (bytesFor (2 * nodes t + 1) ≤ length bytes)
-    there e =
-        let h = none-held bytes _ _ 0 _ (omega arith) e .0 in
-        let w = listed-tree ps (h .0) (h .1 .0) in
-        let t = w .0 in
-        let room = ltb-false (length bytes) (length (packed (stringOf ps))) (h .1 .1 .0) in
-        let same = ap (λ bs. length (packed bs)) (sym (string-parents t) ∙ ap stringOf (w .2)) in
-        (t, w .1, w .2, omega (arith, string-bytes t))
 
 record Accepted (bytes : List ℕ) (L : ℕ) (out : List ℕ) : Type 0 where
   size : length bytes ≡ bytesFor L
@@ -115,20 +112,19 @@ given-read : (bytes : List ℕ) (L : ℕ) (out : List ℕ) (t : Tree) → nodes 
 given-read bytes L out t h e l room = ap₂ (λ xs n. parentsOfString xs n out) (sym e) l ∙ tree-read t out h room
 
 pub string-accepted-exactly : P.StringAcceptedExactly
-string-accepted-exactly bytes L out b = (there, λ w. ap (λ o. o .answer .code) (given-read bytes L out (w .0) (w .1) (w .2) (w .3) (w .4)))
-  where
-    there : parentsOfString bytes L out .answer .code ≡ 0
-        → (t : Tree) × (nodes t ≤ 65535) × (packed (lbs t) ≡ bytes) × (L ≡ 2 * nodes t + 1) × (nodes t ≤ length out)
-    there e =
-        let a = accepted bytes L out e in
-        let w = string-accepted (bitsFrom bytes 0 L) .0 (a .good) in
-        let t = w .0 in (
-          t,
-          w .1,
-          ap packed (w .2) ∙ read-packed bytes L b (a .size) (a .clean),
-          sym (bits-length bytes 0 L) ∙ ap length (sym (w .2)) ∙ string-length t,
-          omega (arith, a .room, length-parents t, ap length (ap parentsOf (sym (w .2)) ∙ string-back t .1)),
-        )
+string-accepted-exactly bytes L out b = (
+  λ e.
+      let a = accepted bytes L out e in
+      let w = string-accepted (bitsFrom bytes 0 L) .0 (a .good) in
+      let t = w .0 in (
+        t,
+        w .1,
+        ap packed (w .2) ∙ read-packed bytes L b (a .size) (a .clean),
+        sym (bits-length bytes 0 L) ∙ ap length (sym (w .2)) ∙ string-length t,
+        omega (arith, a .room, length-parents t, ap length (ap parentsOf (sym (w .2)) ∙ string-back t .1)),
+      ),
+  λ w. ap (λ o. o .answer .code) (given-read bytes L out (w .0) (w .1) (w .2) (w .3) (w .4)),
+)
 
 pub read-then-written : P.ReadThenWritten
 read-then-written bytes L out bytes′ b room e =
