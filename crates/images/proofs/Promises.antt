@@ -44,20 +44,6 @@ module _ (t : Tree) (h : nodes t ≤ 65535) where
   count : length (parentsIn (image t)) ≡ nodes t
   count = ap length (parents-in t h) ∙ length-parents t
 
-  tree-sealed : (bytes : List ℕ) → length (image t) ≤ length bytes → imageOfParents (parents t) bytes ≡ cameTo (countsOf t) (written (image t) bytes)
-  unfolding imageOfParents
-  tree-sealed bytes room =
-      let ps = parents t in
-      let p = parents-are t in
-      let n = length-parents t in
-      let made = image-back t h .0 in
-      settle-on _ _ _ _ _ (between 1 65535 (length ps) (p .some) (omega arith))
-      ∙ settle-on _ _ _ _ _ (le-ltb 0 (badEntry ps) (omega (arith, parents-badEntry ps p)))
-      ∙ settle-on _ _ _ _ _ (le-ltb (length bytes) (length (imageOfString (stringOf ps))) (omega (arith, ap length made)))
-      ∙ settle-none _ _ _
-      ∙ ap₂ (λ n m. cameTo (counts n m) (written (imageOfString (stringOf ps)) bytes)) n (marks-in t)
-      ∙ ap (λ xs. cameTo (countsOf t) (written xs bytes)) made
-
   tree-read : (out : List ℕ) → nodes t ≤ length out → parentsOfImage (image t) out ≡ cameTo (counts (nodes t) 0) (written (parents t) out)
   unfolding parentsOfImage
   tree-read out room =
@@ -67,6 +53,20 @@ module _ (t : Tree) (h : nodes t ≤ 65535) where
       ∙ ap₂ (λ n qs. cameTo (counts n 0) (written qs out)) count (parents-in t h)
 
 -- ---- sealing and the check
+
+pub sealed-of-tree : P.SealedOfTree
+unfolding imageOfParents
+sealed-of-tree t bytes h room =
+    let ps = parents t in
+    let p = parents-are t in
+    let n = length-parents t in
+    let made = image-back t h .0 in
+    settle-on _ _ _ _ _ (between 1 65535 (length ps) (p .some) (omega arith))
+    ∙ settle-on _ _ _ _ _ (le-ltb 0 (badEntry ps) (omega (arith, parents-badEntry ps p)))
+    ∙ settle-on _ _ _ _ _ (le-ltb (length bytes) (length (imageOfString (stringOf ps))) (omega (arith, ap length made)))
+    ∙ settle-none _ _ _
+    ∙ ap₂ (λ n m. cameTo (counts n m) (written (imageOfString (stringOf ps)) bytes)) n (marks-in t)
+    ∙ ap (λ xs. cameTo (countsOf t) (written xs bytes)) made
 
 pub list-sealed-exactly : P.ListSealedExactly
 unfolding imageOfParents
@@ -78,7 +78,7 @@ list-sealed-exactly ps bytes = (
       let room = ltb-false (length bytes) (length (imageOfString (stringOf ps))) (n .1 .1 .0) in
       let same = ap (λ qs. length (imageOfString (stringOf qs))) (sym (w .2)) ∙ ap length (image-back t (w .1) .0) in
       (t, w .1, w .2, omega arith),
-  λ w. ap (λ qs. imageOfParents qs bytes .answer .code) (sym (w .2)) ∙ ap (λ o. o .answer .code) (tree-sealed (w .0) (w .1) bytes (w .3)),
+  λ w. ap (λ qs. imageOfParents qs bytes .answer .code) (sym (w .2)) ∙ ap (λ o. o .answer .code) (sealed-of-tree (w .0) bytes (w .1) (w .3)),
 )
 
 pub checked-of-tree : P.CheckedOfTree
@@ -110,7 +110,7 @@ checked-first bytes out refused = (
 pub sealed-then-read : P.SealedThenRead
 sealed-then-read t bytes out h room roomOut =
     let x = image t in
-    let made = tree-sealed t h bytes room in
+    let made = sealed-of-tree t bytes h room in
     let front : take (length x) (imageOfParents (parents t) bytes .lent) ≡ x
     = ap (λ o. take (length x) (o .lent)) made ∙ take-at x (drop (length x) bytes) (length x) refl in
     (made, ap (λ xs. parentsOfImage xs out) front ∙ tree-read t h out roomOut)
@@ -144,7 +144,7 @@ accepted-is-sealed bytes out bytes′ room e =
     let read = given-read bytes out t (w .1) (w .2) (w .3) in
     let m = ap (λ xs. checkImage xs .answer .second) (sym (w .2)) ∙ ap (λ o. o .answer .second) (checked-of-tree t (w .1)) in
     ap (λ ps. imageOfParents ps bytes′) (read-parents bytes out t read)
-    ∙ tree-sealed t (w .1) bytes′ (omega (arith, ap length (w .2)))
+    ∙ sealed-of-tree t bytes′ (w .1) (omega (arith, ap length (w .2)))
     ∙ ap₂ (λ n m. cameTo (counts n m) (written (image t) bytes′)) (sym (ap (λ o. o .answer .first) read)) (sym m)
     ∙ ap (λ xs. cameTo (counts (parentsOfImage bytes out .answer .first) (checkImage bytes .answer .second)) (written xs bytes′)) (w .2)
 

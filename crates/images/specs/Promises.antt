@@ -33,6 +33,11 @@ abbrev pub ListSealedExactly : Type 0
 ListSealedExactly = (ps bytes : List ℕ)
     → (imageOfParents ps bytes .answer .code ≡ 0) ↔ ((t : Tree) × (nodes t ≤ 65535) × (parents t ≡ ps) × (length (image t) ≤ length bytes))
 
+-- sealing a tree gives its image, and answers its n and m
+abbrev pub SealedOfTree : Type 0
+SealedOfTree = (t : Tree) (bytes : List ℕ) → nodes t ≤ 65535 → length (image t) ≤ length bytes
+    → imageOfParents (parents t) bytes ≡ cameTo (countsOf t) (written (image t) bytes)
+
 -- bytes are accepted exactly if they are the image of some tree of 1 to 65,535 nodes
 abbrev pub ImageAcceptedExactly : Type 0
 ImageAcceptedExactly = (bytes : List ℕ) → (checkImage bytes .answer .code ≡ 0) ↔ ((t : Tree) × (nodes t ≤ 65535) × (image t ≡ bytes))
@@ -90,6 +95,7 @@ abbrev pub Allowed : ℕ → Question → Type 0
 Allowed n q =
     (1 ≤ numberOf (q .node)) × (numberOf (q .node) ≤ n) × ((ask : Ask) × (kindOf (q .kind) ≡ some ask) × (takes ask (q .argument) ≡ true))
 
+-- each of these questions is allowed
 abbrev pub EachAllowed : ℕ → List Question → Type 0
 EachAllowed n [] = Unit
 EachAllowed n (q ∷ qs) = Allowed n q × EachAllowed n qs
@@ -130,11 +136,11 @@ AskedOfTree = (t : Tree) (qs : List ℤ) (out : List ℕ) → nodes t ≤ 65535 
 
 -- ---- Listings.
 
--- no node below x is 64 deeper
+-- every node below x is less than 64 deeper
 abbrev pub Shallow : Tree → ℕ → Type 0
 Shallow t x = let v = nodeAt t x in AllBelow (64 + depth v) (everything v)
 
--- x is a node, no node below it is 64 deeper, and there is room for its listing
+-- x is a node, every node below it is less than 64 deeper, and there is room for its listing
 pub record Listable (t : Tree) (x : ℕ) (out : List ℕ) : Type 0 where
   pub from : 1 ≤ x
   pub to : x ≤ nodes t
@@ -152,7 +158,7 @@ ListedOfTree = (t : Tree) (x : ℕ) (out : List ℕ) → nodes t ≤ 65535 → L
     → let v = nodeAt t x in
     (pairs : List ℕ) × (listImage (image t) x out ≡ cameTo (counts (length (everything v)) 0) (written pairs out)) × Lists t (depth v) (everything v) pairs
 
--- where a node below x is 64 deeper, the first of them in that order is named
+-- else the first node in that order that is 64 deeper is named
 abbrev pub TooDeepIsNamed : Type 0
 TooDeepIsNamed = (t : Tree) (x : ℕ) (out : List ℕ) → nodes t ≤ 65535 → 1 ≤ x → x ≤ nodes t → (Shallow t x → ⊥)
     → let v = nodeAt t x in

@@ -113,14 +113,17 @@ pub record Promises : Type 1 where
   pub image-blocks : Theory.ImageBlocks
   pub image-laid : Theory.ImageLaid
   pub samples-are : Theory.SamplesAre
-  -- any tree comes back the same from its image; the counts of an image made are n and m
+  -- the counts of an image made are n and m
+  pub sealed-of-tree : Images.SealedOfTree
+  -- any tree comes back the same from its image
   pub image-back : Theory.ImageBack
   pub sealed-then-read : Images.SealedThenRead
-  -- an image is accepted exactly if some tree gives it; the counts of an image checked are n and m
+  -- an image is accepted exactly if some tree gives it
   pub bytes-accepted : Theory.ImageAccepted
   pub image-accepted : Images.ImageAcceptedExactly
-  pub checked-of-tree : Images.CheckedOfTree
   pub image-read : Images.ImageReadExactly
+  -- the counts of an image checked are n and m
+  pub checked-of-tree : Images.CheckedOfTree
   -- two trees never give one image
   pub accepted-is-sealed : Images.AcceptedIsSealed
   pub one-image-per-tree : Images.OneImagePerTree
