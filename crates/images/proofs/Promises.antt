@@ -31,7 +31,7 @@ use Rattle.checked.proofs.Calling.{image-answered}
 use Rattle.levels.specs.Levels.{sized, sizeOf}
 use Rattle.levels.specs.Numbers.{measuredOutcome}
 use Rattle.images.specs.Promises as P
-use Rattle.images.specs.Promises.{countsOf, Askable, Allowed, EachAllowed, AllGiven, Listable}
+use Rattle.images.specs.Promises.{countsOf, Askable, Allowed, EachAllowed, AllGiven}
 use Rattle.images.proofs.Passing.{tree-passed, not-passed, rows-done}
 
 -- ---- of a tree

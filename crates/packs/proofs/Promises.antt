@@ -47,7 +47,7 @@ use Rattle.holding.specs.Numbers.{heldOutcome}
 use Rattle.holding.proofs.Rows.{held-refused, held-other, held-trees}
 use Rattle.splitting.proofs.Splitting.{split-made}
 use Rattle.joining.proofs.Joining.{join-done}
-use Rattle.packs.specs.Promises.{FitPack, HoldsPack, longer, RoomToJoin, joinAll}
+use Rattle.packs.specs.Promises.{HoldsPack, longer, RoomToJoin, joinAll}
 use Rattle.packs.specs.Promises as P
 
 -- ---- trees one after the other
