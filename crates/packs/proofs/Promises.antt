@@ -3,7 +3,7 @@ use mathlib.Core.Path.{_≡_, refl, sym, ap, ap₂, _∙_, subst}
 use mathlib.Core.Bool.{Bool, true, false, cond, not, _||_}
 use mathlib.Core.List.{List, [], _∷_, _++_, append-nil, append-assoc}
 use Prim.Native.Nat.{ℕ, zero, suc, _+_, _-_, _*_, _/_, _%_, _^_, _≤_, _<_}
-use native.Mathlib.Decide.{decLt, ℕ-discrete}
+use native.Mathlib.Decide.{decLt}
 use native.Mathlib.Omega.{arith}
 use borrow.Author.Tests.{ltb-false, eq-eqb}
 use lib.Dec.{ltb, eqb}
@@ -21,7 +21,7 @@ use Rattle.meaning.specs.Calls.{wrongCount, parentsOfString, splitPack, joinPac
 use Rattle.theory.specs.Rows.{NoneHolds}
 use Rattle.theory.specs.Layout.{AreBytes}
 use Rattle.theory.specs.Changes.{changed}
-use Rattle.theory.proofs.Settled.{unequal, equal, settle-on}
+use Rattle.theory.proofs.Settled.{unequal, settle-on}
 use Rattle.theory.proofs.Codes.{neither, not-unequal, listed-tree, Others}
 use Rattle.theory.proofs.Parents.{parents-are}
 use Rattle.theory.proofs.Lowest.{parents-badEntry}
@@ -41,10 +41,11 @@ use Rattle.strings.proofs.Promises.{tree-read}
 use Rattle.pack_scan.specs.declared.Pack.the-variants as Scan
 use Rattle.pack_scan.specs.Found.{trees, refused, found}
 use Rattle.pack_scan.proofs.Parts.{starts-length}
+use Rattle.pack_scan.proofs.Telling.{found-refused}
 use Rattle.holding.specs.declared.Held.the-variants.{Trees, Refused}
-use Rattle.holding.specs.Rows.{packRows, firstOf}
+use Rattle.holding.specs.Rows.{packRows, firstOf, alone, over}
 use Rattle.holding.specs.Numbers.{heldOutcome}
-use Rattle.holding.proofs.Rows.{held-refused, held-other, held-trees}
+use Rattle.holding.proofs.Rows.{held, held-trees}
 use Rattle.splitting.proofs.Splitting.{split-made}
 use Rattle.joining.proofs.Joining.{join-done}
 use Rattle.packs.specs.Promises.{HoldsPack, longer, RoomToJoin, joinAll}
@@ -358,11 +359,11 @@ join-by-held pack L k ps z = settle-on _ _ _ _ _ (JoinSizes.none-wrong (length p
 
 pub held-by-scan : P.HeldByScan
 unfolding firstOf
-held-by-scan bytes L k (Scan.Refused x) clean e = sym (held-refused bytes L k clean e)
-held-by-scan bytes L k (Scan.Trees n) clean e = elim (ℕ-discrete n k) [
-  | yes same ↦ sym (held-trees bytes L k clean e same) ∙ sym (ap (λ b. cond b (Refused 10 n) Trees) (equal n k same))
-  | no other ↦ sym (held-other bytes L k clean e other) ∙ sym (ap (λ b. cond b (Refused 10 n) Trees) (unequal n k other))
-]
+held-by-scan bytes L k (Scan.Refused x) clean e =
+    let some = found-refused (bitsFrom bytes 0 L) e .1 in
+    sym (held bytes L k (Scan.Refused x) e)
+    ∙ ap₂ (λ l b. over (alone l 5 0) (over (alone b 4 x) (alone (not (eqb 0 k)) 10 0))) clean (unequal x 0 (λ z. omega arith))
+held-by-scan bytes L k (Scan.Trees n) clean e = sym (held bytes L k (Scan.Trees n) e) ∙ ap (λ l. over (alone l 5 0) (alone (not (eqb n k)) 10 n)) clean
 
 -- ---- damage
 

@@ -1,10 +1,8 @@
 -- `writer::list_node` meets its contract.
 use mathlib.Core.Path.{_≡_, refl, sym, ap, _∙_, subst}
-use mathlib.Core.List.{List, [], _∷_, _++_}
+use mathlib.Core.List.{List, [], _∷_}
 use Prim.Native.Nat.{ℕ, suc, _+_, _-_, _≤_, _<_}
 use native.Mathlib.Omega.{arith}
-use borrow.Author.Needs.{needs}
-use Rattle.meaning.specs.Answers.{written}
 use lib.ListN.{length, getD, set, take, drop, length-set, length-take, length-drop}
 use Rattle.theory.specs.Stages.{nodesOf}
 use Rattle.checked.specs.Checked.{imageIn}
@@ -14,7 +12,7 @@ use Rattle.levels.specs.Cursors.{Ready}
 use Rattle.levels.proofs.Numbers.{low-most, most-nodes, child-mark, last-mark}
 use Rattle.writer.specs.Writing.{NodeIn, pairsOf, Listed}
 use Rattle.writer.proofs.Cursors.{next-child}
-use Rattle.writer.proofs.Writing.{listings, listing-step, pair-put, pair-first, front-length, Going, going-all, going-room, going-more}
+use Rattle.writer.proofs.Writing.{listing-step, pair-put, pair-first, front-length, Going, going-all, going-room, going-more}
 use borrow.Fn.Kinds.{In}
 use borrow.Fn.PlainCycle.{Measures, is, falls, and}
 use Rattle.writer.proofs.list_node.Reads as list-node
