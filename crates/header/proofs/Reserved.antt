@@ -1,32 +1,17 @@
 -- The words of the header, the reserved ones zero byte by byte.
 use mathlib.Core.Path.{_≡_, sym, ap, ap₂, _∙_}
 use mathlib.Core.List.{List}
-use Prim.Native.Nat.{ℕ, zero, suc, _+_, _*_, _/_, _%_, _≤_, _<_}
+use Prim.Native.Nat.{ℕ, _+_, _*_, _/_, _%_, _≤_, _<_}
 use native.Mathlib.Omega.{arith}
 use lib.ListN.{length, getD}
 use Rattle.theory.specs.Layout.{wordAt}
 use Rattle.theory.specs.Stages.{Header, nodesOf, marksOf, blocksNeeded}
 use Rattle.parts.specs.Parts.{ZeroBytes}
-
--- ---- the reserved words
-
-word-bytes : (bytes : List ℕ) (p k : ℕ) → wordAt bytes p ≡ 0 → k < 4 → getD bytes (p + k) 0 ≡ 0
-unfolding wordAt
-word-bytes bytes p zero e h = ap (λ i. getD bytes i 0) (let q : p + 0 ≡ p = omega arith in q) ∙ omega arith
-word-bytes bytes p (suc zero) e h = omega arith
-word-bytes bytes p (suc (suc zero)) e h = omega arith
-word-bytes bytes p (suc (suc (suc zero))) e h = omega arith
-word-bytes bytes p (suc (suc (suc (suc k)))) e h = absurd (omega arith)
+use Rattle.parts.proofs.Zeros.{word-bytes, zero-word}
 
 -- the reserved words of the header are zero exactly if their bytes are
 pub zero-words : (bytes : List ℕ) → ZeroBytes bytes 16 504 → (w : ℕ) → 4 ≤ w → w < 126 → wordAt bytes (4 * w) ≡ 0
-unfolding wordAt
-zero-words bytes z w h g =
-    let a = z (4 * w) (omega arith) (omega arith) in
-    let b = z (4 * w + 1) (omega arith) (omega arith) in
-    let c = z (4 * w + 2) (omega arith) (omega arith) in
-    let d = z (4 * w + 3) (omega arith) (omega arith) in
-    omega arith
+zero-words bytes z w h g = zero-word bytes 16 504 (4 * w) z (omega arith) (omega arith)
 
 pub words-zero : (bytes : List ℕ) → ((w : ℕ) → 4 ≤ w → w < 126 → wordAt bytes (4 * w) ≡ 0) → ZeroBytes bytes 16 504
 words-zero bytes z i h g =

@@ -1,11 +1,12 @@
--- Bytes that are zero, taken together by or.
+-- Bytes that are zero: taken together by or, and in words.
 use mathlib.Core.Path.{_≡_, refl, ap, ap₂, _∙_}
 use mathlib.Core.List.{List}
-use Prim.Native.Nat.{ℕ, _+_, _≤_}
+use Prim.Native.Nat.{ℕ, zero, suc, _+_, _≤_, _<_}
 use native.Mathlib.Decide.{ℕ-discrete}
 use native.Mathlib.Omega.{arith}
 use lib.Bits.{bitOr, or-add-and, or-zero-l, and-le-l, and-le-r}
 use lib.ListN.{getD}
+use Rattle.theory.specs.Layout.{wordAt}
 use Rattle.parts.specs.Parts.{ZeroBytes}
 
 or-left : (a b : ℕ) → bitOr a b ≡ 0 → a ≡ 0
@@ -29,3 +30,21 @@ seen-more bytes from i seen h s = (
   ],
   λ z. ap₂ bitOr (s .1 (λ k l g. z k l (omega arith))) (z i h (omega arith)) ∙ or-zero-l 0,
 )
+
+-- a word is zero exactly if its bytes are
+pub word-bytes : (bytes : List ℕ) (p k : ℕ) → wordAt bytes p ≡ 0 → k < 4 → getD bytes (p + k) 0 ≡ 0
+unfolding wordAt
+word-bytes bytes p zero e h = ap (λ i. getD bytes i 0) (let q : p + 0 ≡ p = omega arith in q) ∙ omega arith
+word-bytes bytes p (suc zero) e h = omega arith
+word-bytes bytes p (suc (suc zero)) e h = omega arith
+word-bytes bytes p (suc (suc (suc zero))) e h = omega arith
+word-bytes bytes p (suc (suc (suc (suc k)))) e h = absurd (omega arith)
+
+pub zero-word : (bytes : List ℕ) (from to p : ℕ) → ZeroBytes bytes from to → from ≤ p → p + 4 ≤ to → wordAt bytes p ≡ 0
+unfolding wordAt
+zero-word bytes from to p z h g =
+    let a = z p h (omega arith) in
+    let b = z (p + 1) (omega arith) (omega arith) in
+    let c = z (p + 2) (omega arith) (omega arith) in
+    let d = z (p + 3) (omega arith) (omega arith) in
+    omega arith

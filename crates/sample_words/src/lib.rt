@@ -9,6 +9,7 @@ ghost use Rattle.parts.specs.Says.{Says};
 ghost use Rattle.word_table.specs.Table.{CountsBefore};
 ghost use Rattle.sample_words.specs.Words.{NamesOne, RestZero};
 use image_words::word;
+use parts::zeros_between;
 use tally::ones_ending;
 
 // Of the first n bits from byte `at` on, which i bits of their string come before: does the sample at byte p name one number `nth` of them, from 1?
@@ -54,13 +55,11 @@ pub fn words_zero(b: &[u8], from: usize, m: u32) -> bool
     requires { ⌜ 512 * (from + blocksOfSamples m) ≤ length (now b) ⌝ }
     ensures { λ r. ⌜ Says r (RestZero (now (b .entry)) from m) ⌝ }
 {
-    let mut s = (m as usize + 63) / 64;
-    let end = (s + 125) / 126 * 126;
-    while s < end {
-        if word(b, 512 * (from + s / 126) + 4 * (s % 126)) != 0 {
-            return false;
-        }
-        s += 1;
+    let samples = (m as usize + 63) / 64;
+    // the last block is full
+    if samples % 126 == 0 {
+        return true;
     }
-    true
+    let at = 512 * (from + samples / 126);
+    zeros_between(b, at + 4 * (samples % 126), at + 504)
 }

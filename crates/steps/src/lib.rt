@@ -10,7 +10,7 @@ ghost use Rattle.parts.specs.Parts.{Counted, onesTo};
 ghost use Rattle.steps.specs.Steps.{StepWithin};
 use image_words::word;
 use parts::string_bit;
-use strides::pairs_in_step;
+use strides::words_in_step;
 
 // Is R1 in step with R0 in the first n bits of their blocks number j?
 fn block_in_step(b: &[u8], zeros: usize, j: usize, n: usize) -> bool
@@ -25,7 +25,7 @@ fn block_in_step(b: &[u8], zeros: usize, j: usize, n: usize) -> bool
 {
     let at1 = 512 * (1 + j);
     let at0 = 512 * (zeros + j);
-    pairs_in_step(
+    words_in_step(
         b,
         at1 + 4,
         at0 + 4,

@@ -1,46 +1,19 @@
-// Two strings in step, of many bytes: eight and sixteen at a time.
+// Two strings in step, of many bytes: eight at a time.
 ghost use Prim.Native.Nat.{_+_, _/_, _≤_};
 ghost use lib.ListN.{length};
 ghost use Rattle.parts.specs.Says.{Says};
 ghost use Rattle.byte_steps.specs.Steps.{StepAt};
 use byte_steps::bytes_in_step;
-use word_steps::pair_in_step;
+use tally::ones_without;
 use word_steps::word_in_step;
-use words::ones_in_word;
 
 // Of n bits of R1 from byte `at1` on, which `ones1` ones come before, and n of R0 from `at0` on, which `ones0` come before: is R1 in step with R0 at each of them? Eight bytes at a time.
-fn words_in_step(b: &[u8], at1: usize, at0: usize, n: usize, ones1: usize, ones0: usize) -> bool
-    requires { ⌜ at1 ≤ 39000 ⌝ }
-    requires { ⌜ at0 ≤ 39000 ⌝ }
-    requires { ⌜ n ≤ 200 ⌝ }
-    requires { ⌜ at1 + (n + 7) / 8 ≤ length (now b) ⌝ }
-    requires { ⌜ at0 + (n + 7) / 8 ≤ length (now b) ⌝ }
-    requires { ⌜ ones1 ≤ 69500 ⌝ }
-    requires { ⌜ ones0 ≤ 69500 ⌝ }
-    ensures { λ r. ⌜ Says r (StepAt (now (b .entry)) at1 at0 n ones1 ones0) ⌝ }
-{
-    let mut before1 = ones1;
-    let mut before0 = ones0;
-    let mut i: usize = 0;
-    while i + 8 <= n / 8 {
-        let more = ones_in_word(b, at1 + i) as usize;
-        if !word_in_step(b, at1 + i, at0 + i, before1, before0, more) {
-            return false;
-        }
-        before1 += more;
-        before0 += ones_in_word(b, at0 + i) as usize;
-        i += 8;
-    }
-    bytes_in_step(b, at1 + i, at0 + i, n - 8 * i, before1, before0)
-}
-
-// The same of n bits, sixteen bytes at a time: two words that are counted side by side.
-pub fn pairs_in_step(b: &[u8], at1: usize, at0: usize, n: usize, ones1: usize, ones0: usize) -> bool
+pub fn words_in_step(b: &[u8], at1: usize, at0: usize, n: usize, ones1: usize, ones0: usize) -> bool
     requires { ⌜ at1 ≤ 38000 ⌝ }
     requires { ⌜ at0 ≤ 38000 ⌝ }
     requires { ⌜ n ≤ 4000 ⌝ }
-    requires { ⌜ at1 + 500 ≤ length (now b) ⌝ }
-    requires { ⌜ at0 + 500 ≤ length (now b) ⌝ }
+    requires { ⌜ at1 + (n + 7) / 8 ≤ length (now b) ⌝ }
+    requires { ⌜ at0 + (n + 7) / 8 ≤ length (now b) ⌝ }
     requires { ⌜ ones1 ≤ 65000 ⌝ }
     requires { ⌜ ones0 ≤ 65000 ⌝ }
     ensures { λ r. ⌜ Says r (StepAt (now (b .entry)) at1 at0 n ones1 ones0) ⌝ }
@@ -48,17 +21,15 @@ pub fn pairs_in_step(b: &[u8], at1: usize, at0: usize, n: usize, ones1: usize, o
     let mut before1 = ones1;
     let mut before0 = ones0;
     let mut i: usize = 0;
-    while i + 16 <= n / 8 {
-        let front1 = ones_in_word(b, at1 + i) as usize;
-        let back1 = ones_in_word(b, at1 + i + 8) as usize;
-        let front0 = ones_in_word(b, at0 + i) as usize;
-        let back0 = ones_in_word(b, at0 + i + 8) as usize;
-        if !pair_in_step(b, at1 + i, at0 + i, before1, before0, front1, back1, front0) {
+    while i + 8 <= n / 8 {
+        let more = ones_without(b, at1 + i, at0 + i) as usize;
+        if !word_in_step(b, at1 + i, at0 + i, before1, before0, more) {
             return false;
         }
-        before1 += front1 + back1;
-        before0 += front0 + back0;
-        i += 16;
+        // the ones that both have are left out of both counts
+        before1 += more;
+        before0 += ones_without(b, at0 + i, at1 + i) as usize;
+        i += 8;
     }
-    words_in_step(b, at1 + i, at0 + i, n - 8 * i, before1, before0)
+    bytes_in_step(b, at1 + i, at0 + i, n - 8 * i, before1, before0)
 }

@@ -1,1 +1,1 @@
-pub mod Both
+pub mod Without

@@ -1,13 +1,14 @@
-// Ones counted in a run of bits, in part of eight bytes, and in common to two words of eight bytes.
+// Ones counted in a run of bits, in part of eight bytes, and in eight bytes without those of eight others.
 ghost use mathlib.Core.Path.{_≡_};
 ghost use Prim.Native.Nat.{_+_, _*_, _/_, _<_, _≤_};
 ghost use lib.ListN.{length};
 ghost use Rattle.meaning.specs.Strings.{ones};
 ghost use Rattle.meaning.specs.Bytes.{bitAt, bitsFrom, value};
-ghost use Rattle.tally.specs.Both.{both};
+ghost use Rattle.tally.specs.Without.{without};
 use byte::ones_in_byte;
 use byte::ones_in_front;
 use words::ones_in_word;
+use words::stored_word;
 use words::whole_word;
 
 // How many of the n bits from byte `at` on are one: words of eight bytes, then bytes, then the front of the last byte.
@@ -54,11 +55,12 @@ pub fn ones_ending(b: &[u8], at: usize, p: usize) -> u32
     (x % 2) as u32 * u64::count_ones(x)
 }
 
-// At how many of 64 places both the bits from byte `at` on and those from byte `other` on are one.
-pub fn ones_in_both(b: &[u8], at: usize, other: usize) -> u32
+// At how many of 64 places the bits from byte `at` on are one, and those from byte `other` on are not.
+pub fn ones_without(b: &[u8], at: usize, other: usize) -> u32
     requires { ⌜ at + 8 ≤ length (now b) ⌝ }
     requires { ⌜ other + 8 ≤ length (now b) ⌝ }
-    ensures { λ r. ⌜ r ≡ ones (both (bitsFrom (now (b .entry)) (8 * at) 64) (bitsFrom (now (b .entry)) (8 * other) 64)) ⌝ }
+    ensures { λ r. ⌜ r ≡ ones (without (bitsFrom (now (b .entry)) (8 * at) 64) (bitsFrom (now (b .entry)) (8 * other) 64)) ⌝ }
 {
-    u64::count_ones(whole_word(b, at) & whole_word(b, other))
+    let x = stored_word(b, at);
+    u64::count_ones(x - (x & stored_word(b, other)))
 }

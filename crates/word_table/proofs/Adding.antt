@@ -5,7 +5,7 @@ use Prim.Native.Nat.{ℕ, zero, suc, _+_, _*_, _≤_, _<_}
 use native.Mathlib.Decide.{decLt}
 use native.Mathlib.Numerals.{add-one}
 use native.Mathlib.Omega.{arith}
-use lib.ListN.{length, getD, set}
+use lib.ListN.{length, getD, set, length-set}
 use lib.Seq.{getD-set-same, getD-set-other}
 use Rattle.meaning.specs.Strings.{ones}
 use Rattle.meaning.specs.Bytes.{bitsFrom}
@@ -32,6 +32,24 @@ sum-next xs w = ap (sumTo xs) (add-one w)
 pub sum-none : (xs : List ℕ) → 0 ≡ sumTo xs 0
 unfolding sumTo
 sum-none xs = refl
+
+-- the first w numbers of a table have been put in their places
+abbrev pub Summed : List ℕ → List ℕ → ℕ → ℕ → Type 0
+Summed t table sum w =
+    (length table ≡ 63) × (sum ≡ sumTo t w) × (sum ≤ 64 * w) × ((q : ℕ) → q < w → getD table q 0 ≡ sumTo t q) × ((q : ℕ) → w ≤ q → getD table q 0 ≡ getD t q 0)
+
+module _ (t : List ℕ) (few : (w : ℕ) → w < 63 → getD t w 0 ≤ 64) (table : List ℕ) (sum w : ℕ) (h : w < 63) (s : Summed t table sum w) where
+  pub summed-few : getD table w 0 ≤ 64
+  summed-few = omega (arith, s .4 w (omega arith), few w h)
+
+  pub summed-more : (next : List ℕ) (r : ℕ) → next ≡ set table w sum → r ≡ sum + getD table w 0 → Summed t next r (w + 1)
+  summed-more next r e f = rw e (
+    simp length-set (s .0),
+    omega (arith, sum-next t w, s .1, s .4 w (omega arith)),
+    omega (arith, summed-few, s .2),
+    filled-more (sumTo t) table w sum (omega (arith, s .0)) (s .1) (s .3),
+    kept-more (λ q. getD t q 0) table w sum (s .4),
+  )
 
 module _ (bytes : List ℕ) (at : ℕ) (table : List ℕ) (counts : WordCounts bytes at table) where
   sum-ones : (w : ℕ) → w ≤ 63 → sumTo table w ≡ ones (bitsFrom bytes (8 * at) (64 * w))

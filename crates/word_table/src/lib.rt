@@ -1,7 +1,7 @@
 // A table of the ones before each of 63 words of eight bytes.
 ghost use mathlib.Core.Path.{_≡_};
-ghost use Prim.Native.Nat.{ℕ, _+_, _≤_, _<_};
-ghost use lib.ListN.{getD, length};
+ghost use Prim.Native.Nat.{ℕ, _+_, _*_, _≤_, _<_};
+ghost use lib.ListN.{getD, length, set};
 ghost use Rattle.word_table.specs.Table.{WordCounts, sumTo};
 use words::ones_in_word;
 
@@ -19,7 +19,21 @@ pub fn count_words(b: &[u8], at: usize, table: &mut [u32; 63])
     }
 }
 
-// Puts in the place of each number what those before it come to.
+// Puts `sum` in the place of number w, and adds that number to it.
+fn put_before(table: &mut [u32; 63], w: usize, sum: u32) -> u32
+    requires { ⌜ length (now table) ≡ 63 ⌝ }
+    requires { ⌜ w < 63 ⌝ }
+    requires { ⌜ getD (now table) w 0 ≤ 64 ⌝ }
+    requires { ⌜ sum ≤ 64 * w ⌝ }
+    ensures { λ _. ⌜ now (table .exit) ≡ set (now (table .entry)) w sum ⌝ }
+    ensures { λ r. ⌜ r ≡ sum + getD (now (table .entry)) w 0 ⌝ }
+{
+    let next = sum + table[w];
+    table[w] = sum;
+    next
+}
+
+// Puts in the place of each number what those before it come to. Three in a turn: a turn of one is mostly the loop's own.
 pub fn add_up(table: &mut [u32; 63])
     requires { ⌜ length (now table) ≡ 63 ⌝ }
     requires { ⌜ ((w : ℕ) → w < 63 → getD (now table) w 0 ≤ 64) ⌝ }
@@ -28,9 +42,9 @@ pub fn add_up(table: &mut [u32; 63])
     let mut sum: u32 = 0;
     let mut w: usize = 0;
     while w < 63 {
-        let next = sum + table[w];
-        table[w] = sum;
-        sum = next;
-        w += 1;
+        sum = put_before(table, w, sum);
+        sum = put_before(table, w + 1, sum);
+        sum = put_before(table, w + 2, sum);
+        w += 3;
     }
 }

@@ -39,7 +39,7 @@ module _ (bytes : List ℕ) where
       ∙ ap (λ n. number n (bitsFrom bytes p k) * 2 ^ m + number m (bitsFrom bytes (p + k) m)) l
 
   module _ (are : AreBytes bytes) where
-    number-of-byte : (i : ℕ) → number 8 (bitsFrom bytes (8 * i) 8) ≡ getD bytes i 0
+    pub number-of-byte : (i : ℕ) → number 8 (bitsFrom bytes (8 * i) 8) ≡ getD bytes i 0
     number-of-byte i =
         ap (λ p. number 8 (bitsFrom bytes p 8)) (let e : 8 * i ≡ 8 * i + 0 = omega arith in e)
         ∙ ap (number 8) (bits-of-byte bytes i 0 8 (omega arith))

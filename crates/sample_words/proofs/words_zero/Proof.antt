@@ -1,79 +1,57 @@
 -- `sample_words::words_zero` meets its contract.
-use mathlib.Core.Path.{_≡_, sym, _∙_}
-use Prim.Native.Nat.{ℕ, _+_, _-_, _/_, _≤_, _<_}
-use native.Mathlib.Omega.{arith}
-use Rattle.theory.specs.Layout.{sampleIn}
-use Rattle.parts.proofs.Within.{within-more}
+use mathlib.Core.Path.{refl}
+use Prim.Native.Nat.{_+_, _*_, _/_, _%_}
+use borrow.Author.Needs.{needs}
+use Rattle.parts.specs.Parts.{ZeroBytes}
+use Rattle.parts.proofs.Saying.{says-same}
+use Rattle.sample_words.specs.Words.{RestZero}
+use Rattle.sample_words.proofs.Ending.{rest-zero, zero-rest}
 use Rattle.sample_words.proofs.words_zero.Statement.{statement}
 use Rattle.sample_words.proofs.words_zero.Tie as tie
 
-abbrev Inv-loop : tie.InvT-loop
-Inv-loop b from m s₀ end s = ((m + 63) / 64 ≤ s) × ((q : ℕ) → (m + 63) / 64 ≤ q → q < s → sampleIn b from q ≡ 0)
+add-samples : tie.Need-add-samples
+add-samples c = search needs
 
-abbrev μ-loop : tie.MeasureT-loop
-μ-loop b from m s₀ end s = end - s
+returns : tie.Need-returns
+returns c = search needs
 
-add-s : tie.Need-add-s Inv-loop μ-loop
-add-s c = omega arith
+add-at : tie.Need-add-at
+add-at c = search needs
 
-add-end : tie.Need-add-end Inv-loop μ-loop
-add-end c = omega arith
+mul-at : tie.Need-mul-at
+mul-at c = search needs
 
-mul-end : tie.Need-mul-end Inv-loop μ-loop
-mul-end c = omega arith
+mul-zeros-between : tie.Need-mul-zeros-between
+mul-zeros-between c = search needs
 
-loop-holds : tie.Need-loop-holds Inv-loop μ-loop
-loop-holds c = (omega arith, λ q h g. absurd (omega arith))
+add-zeros-between : tie.Need-add-zeros-between
+add-zeros-between c = search needs
 
-add-word : tie.Need-add-word Inv-loop μ-loop
-add-word c = omega arith
+add-zeros-between-2 : tie.Need-add-zeros-between-2
+add-zeros-between-2 c = search needs
 
-mul-word : tie.Need-mul-word Inv-loop μ-loop
-mul-word c = omega arith
+zeros-between-requires : tie.Need-zeros-between-requires
+zeros-between-requires c κs = search needs
 
-mul-word-2 : tie.Need-mul-word-2 Inv-loop μ-loop
-mul-word-2 c = omega arith
-
-add-word-2 : tie.Need-add-word-2 Inv-loop μ-loop
-add-word-2 c = omega arith
-
-word-requires : tie.Need-word-requires Inv-loop μ-loop
-word-requires c κs = omega arith
-
-returns : tie.Need-returns Inv-loop μ-loop
-returns c = λ z. c .if1 .taken (c .before .word .ensures ∙ z (c .before .before .before .loop .s) (omega arith) (omega arith))
-
-add-s-2 : tie.Need-add-s-2 Inv-loop μ-loop
-add-s-2 c = omega arith
-
-loop-less : tie.Need-loop-less Inv-loop μ-loop
-loop-less c = omega arith
-
-loop-again : tie.Need-loop-again Inv-loop μ-loop
-loop-again c =
-    let a = c .before .before .before .before .before .args in
-    (omega arith, within-more (λ q. sampleIn (a .b .now) (a .from) q ≡ 0) ((a .m + 63) / 64) (c .before .before .before .loop .s) (c .before .before .before .loop .inv .1) (sym (c .before .word .ensures) ∙ c .if1 .left))
-
-returns-2 : tie.Need-returns-2 Inv-loop μ-loop
-returns-2 c = λ q h g. c .before .loop .inv .1 q h (omega arith)
+returns-2 : tie.Need-returns-2
+returns-2 c =
+    let a = c .before .before .before .args in
+    let b = a .b .now in
+    let s = (a .m + 63) / 64 in
+    let at = 512 * (a .from + s / 126) in
+    says-same (c .zeros-between .result) (ZeroBytes b (at + 4 * (s % 126)) (at + 504)) (RestZero b (a .from) (a .m))
+    (rest-zero b (a .from) (a .m) s refl (c .before .if1 .left) at refl) (zero-rest b (a .from) (a .m) s refl (c .before .if1 .left) at refl) (c .zeros-between .ensures)
 
 pub words-zero-spec : {M : Type 1} → statement M
 words-zero-spec =
     tie.close
     (tie.spec
-    Inv-loop
-    μ-loop
-    add-s
-    add-end
-    mul-end
-    loop-holds
-    add-word
-    mul-word
-    mul-word-2
-    add-word-2
-    word-requires
+    add-samples
     returns
-    add-s-2
-    loop-less
-    loop-again
+    add-at
+    mul-at
+    mul-zeros-between
+    add-zeros-between
+    add-zeros-between-2
+    zeros-between-requires
     returns-2)

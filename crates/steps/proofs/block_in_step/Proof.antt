@@ -23,26 +23,26 @@ add-at0 c = search needs
 mul-at0 : tie.Need-mul-at0
 mul-at0 c = search needs
 
-add-pairs-in-step : tie.Need-add-pairs-in-step
-add-pairs-in-step c = search needs
+add-words-in-step : tie.Need-add-words-in-step
+add-words-in-step c = search needs
 
-add-pairs-in-step-2 : tie.Need-add-pairs-in-step-2
-add-pairs-in-step-2 c = search needs
+add-words-in-step-2 : tie.Need-add-words-in-step-2
+add-words-in-step-2 c = search needs
 
 word-requires : tie.Need-word-requires
 word-requires c κs = omega arith
 
-cast-pairs-in-step : tie.Need-cast-pairs-in-step
-cast-pairs-in-step c = search needs
+cast-words-in-step : tie.Need-cast-words-in-step
+cast-words-in-step c = search needs
 
 word-requires-2 : tie.Need-word-requires-2
 word-requires-2 c κs = omega arith
 
-cast-pairs-in-step-2 : tie.Need-cast-pairs-in-step-2
-cast-pairs-in-step-2 c = search needs
+cast-words-in-step-2 : tie.Need-cast-words-in-step-2
+cast-words-in-step-2 c = search needs
 
-pairs-in-step-requires : tie.Need-pairs-in-step-requires
-pairs-in-step-requires c κs =
+words-in-step-requires : tie.Need-words-in-step-requires
+words-in-step-requires c κs =
     let a = c .before .before .before .args in
     let b = a .b .now in
     let most1 = onesTo-le b 1 (4000 * a .j) in
@@ -57,8 +57,8 @@ returns c =
     let k0 = c .before .word2 .result in
     let e1 = c .before .before .word .ensures ∙ c .before .before .before .before .pre .1 .1 .1 .1 .1 .0 in
     let e0 = c .before .word2 .ensures ∙ c .before .before .before .before .pre .1 .1 .1 .1 .1 .1 in
-    says-same (c .pairs-in-step .result) (StepAt b (512 * (1 + a .j) + 4) (512 * (a .zeros + a .j) + 4) (a .n) k1 k0) (StepWithin b (a .zeros) (4000 * a .j) (4000 * a .j + a .n))
-    (step-block b (a .zeros) (a .j) (a .n) k1 k0 (omega arith) e1 e0) (block-step b (a .zeros) (a .j) (a .n) k1 k0 (omega arith) e1 e0) (c .pairs-in-step .ensures)
+    says-same (c .words-in-step .result) (StepAt b (512 * (1 + a .j) + 4) (512 * (a .zeros + a .j) + 4) (a .n) k1 k0) (StepWithin b (a .zeros) (4000 * a .j) (4000 * a .j + a .n))
+    (step-block b (a .zeros) (a .j) (a .n) k1 k0 (omega arith) e1 e0) (block-step b (a .zeros) (a .j) (a .n) k1 k0 (omega arith) e1 e0) (c .words-in-step .ensures)
 
 pub block-in-step-spec : {M : Type 1} → statement M
 block-in-step-spec =
@@ -68,11 +68,11 @@ block-in-step-spec =
     mul-at1
     add-at0
     mul-at0
-    add-pairs-in-step
-    add-pairs-in-step-2
+    add-words-in-step
+    add-words-in-step-2
     word-requires
-    cast-pairs-in-step
+    cast-words-in-step
     word-requires-2
-    cast-pairs-in-step-2
-    pairs-in-step-requires
+    cast-words-in-step-2
+    words-in-step-requires
     returns)
