@@ -1,4 +1,4 @@
-// Of one string of an image: its blocks, the ones it has, and its end.
+// Of one string of an image: the ones it has, and its end.
 ghost use mathlib.Core.Path.{_≡_};
 ghost use Prim.Native.Nat.{_+_, _*_, _≤_};
 ghost use lib.ListN.{length};
@@ -9,22 +9,19 @@ ghost use Rattle.parts.specs.Says.{Says};
 ghost use Rattle.parts.specs.Parts.{Counted};
 ghost use Rattle.counts.specs.Parts.{StringRight};
 use image_words::word;
-use keeping::counts_kept;
 use keeping::rest_zero;
 use parts::string_bit;
 use tally::ones_from;
 
-// Does each block of the string of n bits have the number of earlier ones, and zeros after the last bit?
+// Are there zeros after the last of the n bits of a string whose blocks have the number of earlier ones?
 fn string_kept(b: &[u8], first: usize, n: usize) -> bool
     requires { ⌜ 1 ≤ n ⌝ }
     requires { ⌜ n ≤ 65536 ⌝ }
     requires { ⌜ first ≤ 53 ⌝ }
     requires { ⌜ 512 * (first + stringBlocks n) ≤ length (now b) ⌝ }
+    requires { ⌜ Counted (now b) first n ⌝ }
     ensures { λ r. ⌜ Says r (Kept (now (b .entry)) first (stringIn (now (b .entry)) first 0 n)) ⌝ }
 {
-    if !counts_kept(b, first, n) {
-        return false;
-    }
     let last = (n - 1) / 4000;
     rest_zero(b, 512 * (first + last) + 4, n - 4000 * last)
 }
@@ -57,15 +54,15 @@ fn string_ended(b: &[u8], first: usize, n: usize, m: u32) -> bool
     string_bit(b, first, n - 1) == 1
 }
 
-// Of a string of n bits: do its blocks count right, and has it m ones, the last bit among them?
+// Of a string of n bits whose blocks count right: does it end in zeros, and has it m ones, the last bit among them?
 pub fn string_right(b: &[u8], first: usize, n: usize, m: u32) -> bool
     requires { ⌜ 1 ≤ n ⌝ }
     requires { ⌜ n ≤ 65536 ⌝ }
     requires { ⌜ first ≤ 53 ⌝ }
     requires { ⌜ 512 * (first + stringBlocks n) ≤ length (now b) ⌝ }
+    requires { ⌜ Counted (now b) first n ⌝ }
     ensures { λ r. ⌜ Says r (StringRight (now (b .entry)) first n m) ⌝ }
 {
-    // the counts first: what comes behind them reads those, and counts no block again
     if !string_kept(b, first, n) {
         return false;
     }

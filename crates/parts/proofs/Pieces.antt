@@ -1,7 +1,7 @@
 -- The counts of a string's blocks, and its last bit.
 use mathlib.Core.Path.{_≡_, sym, ap, _∙_}
 use mathlib.Core.List.{List}
-use Prim.Native.Nat.{ℕ, _+_, _-_, _*_, _/_, _≤_, _<_}
+use Prim.Native.Nat.{ℕ, _+_, _-_, _*_, _≤_, _<_}
 use native.Mathlib.Decide.{ℕ-discrete}
 use native.Mathlib.Omega.{arith}
 use lib.ListN.{length, getD}
@@ -12,7 +12,6 @@ use Rattle.theory.specs.Layout.{bitPlace, wordAt}
 use Rattle.theory.specs.Stages.{Ended}
 use Rattle.theory.proofs.TreeImages.{length-stringIn, stringIn-at}
 use Rattle.bit.proofs.Values.{is-I}
-use Rattle.parts.specs.Parts.{Counted}
 
 -- ---- the counts of the first j blocks
 
@@ -24,16 +23,6 @@ counted-more bytes b j c e k h = elim (ℕ-discrete k j) [
   | yes q ↦ ap (λ i. wordAt bytes (512 * (b + i))) q ∙ e ∙ ap (λ i. ones (stringIn bytes b 0 (4000 * i))) (sym q)
   | no d ↦ c k (omega arith)
 ]
-
--- the last block's is the only one left
-pub counted-all : (bytes : List ℕ) (b n j : ℕ) → 1 ≤ n → j ≡ (n - 1) / 4000 → CountedTo bytes b j
-    → wordAt bytes (512 * (b + (n - 1) / 4000)) ≡ ones (stringIn bytes b 0 (4000 * j)) → Counted bytes b n
-counted-all bytes b n j h e c w k g =
-    counted-more bytes b j c (ap (λ i. wordAt bytes (512 * (b + i))) e ∙ w) k (omega arith)
-
-pub counted-last : (bytes : List ℕ) (b n j : ℕ) → 1 ≤ n → j ≡ (n - 1) / 4000 → Counted bytes b n
-    → wordAt bytes (512 * (b + (n - 1) / 4000)) ≡ ones (stringIn bytes b 0 (4000 * j))
-counted-last bytes b n j h e c = c ((n - 1) / 4000) (omega arith) ∙ ap (λ i. ones (stringIn bytes b 0 (4000 * i))) (sym e)
 
 -- ---- the last bit
 

@@ -16,11 +16,11 @@ use Rattle.theory.proofs.Navigate.{one-there, place-of-one}
 use Rattle.theory.proofs.Payloads.{length-samples, sample-at}
 use Rattle.theory.proofs.TreeImages.{length-stringIn}
 use Rattle.theory.proofs.Stages.{sampled-word}
-use Rattle.parts.specs.Parts.{onesTo}
+use Rattle.parts.specs.Parts.{Counted, onesTo}
 use Rattle.parts.proofs.Ones.{onesTo-take, onesTo-next, onesTo-mono, onesTo-block, string-at}
 use Rattle.sample_words.specs.Words.{RestZero}
 use Rattle.piece_samples.specs.Pieces.{SampledHere, PieceSampled}
-use Rattle.samples.specs.Samples.{SampledWithin}
+use Rattle.samples.specs.Samples.{SampledWithin, BlocksRight}
 
 -- ---- one sample
 
@@ -103,3 +103,11 @@ module _ (bytes : List ℕ) (from first n m : ℕ) (count : m ≡ onesTo bytes f
 
   pub sampled-rest : Sampled bytes from m r → RestZero bytes from m
   sampled-rest s q h g = sampled-word bytes from m r s q g ∙ List·getD-eq-default (samples r) 0 (let l : length (samples r) ≤ q = omega (arith, length-samples r) in l)
+
+  -- what the blocks and the samples tell together of those that are full
+  pub blocks-right : Counted bytes first n → Sampled bytes from m r → BlocksRight bytes from m first n
+  blocks-right c s = record {
+    counted = c;
+    few = omega (arith, onesTo-mono bytes first (4000 * ((n - 1) / 4000)) n (omega arith));
+    sampled = λ p h g. sampled-within s p h (omega arith);
+  }

@@ -11,6 +11,7 @@ use blocks::zeros_from;
 use counts::string_right;
 use header::header_right;
 use image_words::word;
+use samples::full_blocks_right;
 use samples::samples_right;
 use steps::in_step;
 
@@ -25,6 +26,13 @@ fn strings_pass(b: &[u8], n: usize, m: u32, zeros: usize, samples1: usize, sampl
     requires { ⌜ samples0 ≤ 53 ⌝ }
     ensures { λ r. ⌜ Says r (StringsPass (now (b .entry)) n m zeros samples1 samples0) ⌝ }
 {
+    // the counts first: what comes behind them reads those, and counts no block again
+    if !full_blocks_right(b, samples1, m, 1, n) {
+        return false;
+    }
+    if !full_blocks_right(b, samples0, m, zeros, n + 1) {
+        return false;
+    }
     if !string_right(b, 1, n, m) {
         return false;
     }

@@ -4,21 +4,11 @@ use native.Mathlib.Omega.{arith}
 use borrow.Author.Needs.{needs}
 use Rattle.meaning.specs.Image.{stringIn}
 use Rattle.theory.specs.Stages.{Kept}
-use Rattle.parts.specs.Parts.{Counted, Unused}
-use Rattle.parts.proofs.Saying.{says-same, says-held, says-missed}
-use Rattle.parts.proofs.Blanks.{kept, kept-counts, kept-unused}
+use Rattle.parts.specs.Parts.{Unused}
+use Rattle.parts.proofs.Saying.{says-same}
+use Rattle.parts.proofs.Blanks.{kept, kept-unused}
 use Rattle.counts.proofs.string_kept.Statement.{statement}
 use Rattle.counts.proofs.string_kept.Tie as tie
-
-counts-kept-requires : tie.Need-counts-kept-requires
-counts-kept-requires c κs = search needs
-
-returns : tie.Need-returns
-returns c =
-    let counts-kept = c .before .counts-kept in
-    let a = c .before .before .before .args in
-    λ k. says-missed (counts-kept .result) (Counted (a .b .now) (a .first) (a .n)) (counts-kept .ensures) (c .if1 .taken)
-    (kept-counts (a .b .now) (a .first) (a .n) (omega arith) k)
 
 sub-last : tie.Need-sub-last
 sub-last c = search needs
@@ -41,22 +31,19 @@ sub-rest-zero c = search needs
 rest-zero-requires : tie.Need-rest-zero-requires
 rest-zero-requires c κs = search needs
 
-returns-2 : tie.Need-returns-2
-returns-2 c =
-    let a = c .before .before .before .before .args in
+returns : tie.Need-returns
+returns c =
+    let s = c .before .before in
+    let a = s .args in
     let last = (a .n - 1) / 4000 in
-    let counts-kept = c .before .before .counts-kept in
-    let counted = says-held (counts-kept .result) (Counted (a .b .now) (a .first) (a .n)) (counts-kept .ensures) (c .before .if1 .left) in
     says-same (c .rest-zero .result) (Unused (a .b .now) (512 * (a .first + last) + 4) (a .n - 4000 * last))
     (Kept (a .b .now) (a .first) (stringIn (a .b .now) (a .first) 0 (a .n)))
-    (kept (a .b .now) (a .first) (a .n) (omega arith) counted) (kept-unused (a .b .now) (a .first) (a .n) (omega arith)) (c .rest-zero .ensures)
+    (kept (a .b .now) (a .first) (a .n) (omega arith) (s .pre .1 .1 .1 .1)) (kept-unused (a .b .now) (a .first) (a .n) (omega arith)) (c .rest-zero .ensures)
 
 pub string-kept-spec : {M : Type 1} → statement M
 string-kept-spec =
     tie.close
     (tie.spec
-    counts-kept-requires
-    returns
     sub-last
     add-rest-zero
     mul-rest-zero
@@ -64,4 +51,4 @@ string-kept-spec =
     mul-rest-zero-2
     sub-rest-zero
     rest-zero-requires
-    returns-2)
+    returns)

@@ -1,20 +1,17 @@
 -- `counts::string_right` meets its contract.
 use native.Mathlib.Omega.{arith}
-use Rattle.parts.proofs.Blanks.{kept-counts}
 use Rattle.parts.proofs.Saying.{says-held, says-missed, says-same}
 use Rattle.counts.proofs.string_right.Statement.{statement}
 use Rattle.counts.proofs.string_right.Tie as tie
 
 string-kept-requires : tie.Need-string-kept-requires
-string-kept-requires c κs = (omega arith, (omega arith, (omega arith, omega arith)))
+string-kept-requires c κs = (omega arith, (omega arith, (omega arith, (omega arith, c .before .pre .1 .1 .1 .1))))
 
 returns : tie.Need-returns
 returns c = λ s. says-missed (c .before .string-kept .result) _ (c .before .string-kept .ensures) (c .if1 .taken) (s .kept)
 
 string-ended-requires : tie.Need-string-ended-requires
-string-ended-requires c κs =
-    let k = says-held (c .before .string-kept .result) _ (c .before .string-kept .ensures) (c .if1 .left) in
-    (omega arith, (omega arith, (omega arith, (omega arith, kept-counts (c .before .before .before .args .b .now) (c .before .before .before .args .first) (c .before .before .before .args .n) (omega arith) k))))
+string-ended-requires c κs = (omega arith, (omega arith, (omega arith, (omega arith, c .before .before .before .pre .1 .1 .1 .1))))
 
 returns-2 : tie.Need-returns-2
 returns-2 c =

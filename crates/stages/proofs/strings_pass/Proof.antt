@@ -5,84 +5,104 @@ use Prim.Native.Nat.{_+_}
 use native.Mathlib.Omega.{arith}
 use Rattle.parts.proofs.Blanks.{kept-counts}
 use Rattle.parts.proofs.Saying.{says-held, says-missed, says-same}
+use Rattle.samples.specs.Samples.{BlocksRight}
+use Rattle.samples.proofs.Sampling.{blocks-right}
 use Rattle.stages.proofs.strings_pass.Statement.{statement}
 use Rattle.stages.proofs.strings_pass.Tie as tie
 
-string-right-requires : tie.Need-string-right-requires
-string-right-requires c κs = (omega arith, (omega arith, (omega arith, omega arith)))
+full-blocks-right-requires : tie.Need-full-blocks-right-requires
+full-blocks-right-requires c κs = (omega arith, (omega arith, (omega arith, (omega arith, (omega arith, omega arith)))))
 
 returns : tie.Need-returns
-returns c = λ s. says-missed (c .before .string-right .result) _ (c .before .string-right .ensures) (c .if1 .taken) (s .right1)
+returns c = λ s.
+    let a = c .before .before .before .args in
+    says-missed (c .before .full-blocks-right .result) _ (c .before .full-blocks-right .ensures) (c .if1 .taken)
+    (blocks-right (a .b .now) (a .samples1) 1 (a .n) (a .m) (sym (s .right1 .ended .count)) (kept-counts (a .b .now) 1 (a .n) (omega arith) (s .right1 .kept)) (s .sampled1))
+
+add-full-blocks-right : tie.Need-add-full-blocks-right
+add-full-blocks-right c = search needs
+
+full-blocks-right-requires-2 : tie.Need-full-blocks-right-requires-2
+full-blocks-right-requires-2 c κs = (omega arith, (omega arith, (omega arith, (omega arith, (omega arith, omega arith)))))
+
+returns-2 : tie.Need-returns-2
+returns-2 c = λ s.
+    let a = c .before .before .before .before .before .args in
+    says-missed (c .before .full-blocks-right2 .result) _ (c .before .full-blocks-right2 .ensures) (c .if2 .taken)
+    (blocks-right (a .b .now) (a .samples0) (a .zeros) (a .n + 1) (a .m) (sym (s .right0 .ended .count)) (kept-counts (a .b .now) (a .zeros) (a .n + 1) (omega arith) (s .right0 .kept)) (s .sampled0))
+
+-- what the first two tests tell
+module _ (c : tie.Else2) where
+  pub blocks1 : BlocksRight (c .before .before .before .before .before .args .b .now) (c .before .before .before .before .before .args .samples1) (c .before .before .before .before .before .args .m) 1 (c .before .before .before .before .before .args .n)
+  blocks1 = says-held (c .before .before .before .full-blocks-right .result) _ (c .before .before .before .full-blocks-right .ensures) (c .before .before .if1 .left)
+
+  pub blocks0 : BlocksRight (c .before .before .before .before .before .args .b .now) (c .before .before .before .before .before .args .samples0) (c .before .before .before .before .before .args .m) (c .before .before .before .before .before .args .zeros) (c .before .before .before .before .before .args .n + 1)
+  blocks0 = says-held (c .before .full-blocks-right2 .result) _ (c .before .full-blocks-right2 .ensures) (c .if2 .left)
+
+string-right-requires : tie.Need-string-right-requires
+string-right-requires c κs = (omega arith, (omega arith, (omega arith, (omega arith, blocks1 c .counted))))
+
+returns-3 : tie.Need-returns-3
+returns-3 c = λ s. says-missed (c .before .string-right .result) _ (c .before .string-right .ensures) (c .if3 .taken) (s .right1)
 
 add-string-right : tie.Need-add-string-right
 add-string-right c = search needs
 
 string-right-requires-2 : tie.Need-string-right-requires-2
-string-right-requires-2 c κs = (omega arith, (omega arith, (omega arith, omega arith)))
+string-right-requires-2 c κs = (omega arith, (omega arith, (omega arith, (omega arith, blocks0 (c .before .before) .counted))))
 
-returns-2 : tie.Need-returns-2
-returns-2 c = λ s. says-missed (c .before .string-right2 .result) _ (c .before .string-right2 .ensures) (c .if2 .taken) (s .right0)
+returns-4 : tie.Need-returns-4
+returns-4 c = λ s. says-missed (c .before .string-right2 .result) _ (c .before .string-right2 .ensures) (c .if4 .taken) (s .right0)
 
 in-step-requires : tie.Need-in-step-requires
 in-step-requires c κs =
-    let a = c .before .before .before .before .before .args in
-    let b = a .b .now in
-    let right1 = says-held (c .before .before .before .string-right .result) _ (c .before .before .before .string-right .ensures) (c .before .before .if1 .left) in
-    let right0 = says-held (c .before .string-right2 .result) _ (c .before .string-right2 .ensures) (c .if2 .left) in
-    let counted1 = kept-counts b 1 (a .n) (omega arith) (right1 .kept) in
-    let counted0 = kept-counts b (a .zeros) (a .n + 1) (omega arith) (right0 .kept) in
-    (omega arith, (omega arith, (c .before .before .before .before .before .pre .1 .1 .0, (omega arith, (counted1, counted0)))))
+    (omega arith, (omega arith, (c .before .before .before .before .before .before .before .before .before .pre .1 .1 .0, (omega arith, (blocks1 (c .before .before .before .before) .counted, blocks0 (c .before .before .before .before) .counted)))))
 
-returns-3 : tie.Need-returns-3
-returns-3 c = λ s. says-missed (c .before .in-step .result) _ (c .before .in-step .ensures) (c .if3 .taken) (s .inStep)
+returns-5 : tie.Need-returns-5
+returns-5 c = λ s. says-missed (c .before .in-step .result) _ (c .before .in-step .ensures) (c .if5 .taken) (s .inStep)
 
 samples-right-requires : tie.Need-samples-right-requires
 samples-right-requires c κs =
-    let a = c .before .before .before .before .before .before .before .args in
-    let b = a .b .now in
-    let right1 = says-held (c .before .before .before .before .before .string-right .result) _ (c .before .before .before .before .before .string-right .ensures) (c .before .before .before .before .if1 .left) in
-    let right0 = says-held (c .before .before .before .string-right2 .result) _ (c .before .before .before .string-right2 .ensures) (c .before .before .if2 .left) in
-    let counted1 = kept-counts b 1 (a .n) (omega arith) (right1 .kept) in
-    let counted0 = kept-counts b (a .zeros) (a .n + 1) (omega arith) (right0 .kept) in
-    (omega arith, (omega arith, (sym (right1 .ended .count), (omega arith, (omega arith, (omega arith, (omega arith, counted1)))))))
+    let right1 = says-held (c .before .before .before .before .before .string-right .result) _ (c .before .before .before .before .before .string-right .ensures) (c .before .before .before .before .if3 .left) in
+    (omega arith, (omega arith, (sym (right1 .ended .count), (omega arith, (omega arith, (omega arith, (omega arith, blocks1 (c .before .before .before .before .before .before))))))))
 
-returns-4 : tie.Need-returns-4
-returns-4 c = λ s. says-missed (c .before .samples-right .result) _ (c .before .samples-right .ensures) (c .if4 .taken) (s .sampled1)
+returns-6 : tie.Need-returns-6
+returns-6 c = λ s. says-missed (c .before .samples-right .result) _ (c .before .samples-right .ensures) (c .if6 .taken) (s .sampled1)
 
 add-samples-right : tie.Need-add-samples-right
 add-samples-right c = search needs
 
 samples-right-requires-2 : tie.Need-samples-right-requires-2
 samples-right-requires-2 c κs =
-    let a = c .before .before .before .before .before .before .before .before .before .args in
-    let b = a .b .now in
-    let right1 = says-held (c .before .before .before .before .before .before .before .string-right .result) _ (c .before .before .before .before .before .before .before .string-right .ensures) (c .before .before .before .before .before .before .if1 .left) in
-    let right0 = says-held (c .before .before .before .before .before .string-right2 .result) _ (c .before .before .before .before .before .string-right2 .ensures) (c .before .before .before .before .if2 .left) in
-    let counted1 = kept-counts b 1 (a .n) (omega arith) (right1 .kept) in
-    let counted0 = kept-counts b (a .zeros) (a .n + 1) (omega arith) (right0 .kept) in
-    (omega arith, (omega arith, (sym (right0 .ended .count), (omega arith, (omega arith, (omega arith, (omega arith, counted0)))))))
+    let right0 = says-held (c .before .before .before .before .before .string-right2 .result) _ (c .before .before .before .before .before .string-right2 .ensures) (c .before .before .before .before .if4 .left) in
+    (omega arith, (omega arith, (sym (right0 .ended .count), (omega arith, (omega arith, (omega arith, (omega arith, blocks0 (c .before .before .before .before .before .before .before .before))))))))
 
-returns-5 : tie.Need-returns-5
-returns-5 c =
-    let right1 = says-held (c .before .before .before .before .before .before .before .before .string-right .result) _ (c .before .before .before .before .before .before .before .before .string-right .ensures) (c .before .before .before .before .before .before .before .if1 .left) in
-    let right0 = says-held (c .before .before .before .before .before .before .string-right2 .result) _ (c .before .before .before .before .before .before .string-right2 .ensures) (c .before .before .before .before .before .if2 .left) in
-    let inStep = says-held (c .before .before .before .before .in-step .result) _ (c .before .before .before .before .in-step .ensures) (c .before .before .before .if3 .left) in
-    let sampled1 = says-held (c .before .before .samples-right .result) _ (c .before .before .samples-right .ensures) (c .before .if4 .left) in
+returns-7 : tie.Need-returns-7
+returns-7 c =
+    let right1 = says-held (c .before .before .before .before .before .before .before .before .string-right .result) _ (c .before .before .before .before .before .before .before .before .string-right .ensures) (c .before .before .before .before .before .before .before .if3 .left) in
+    let right0 = says-held (c .before .before .before .before .before .before .string-right2 .result) _ (c .before .before .before .before .before .before .string-right2 .ensures) (c .before .before .before .before .before .if4 .left) in
+    let inStep = says-held (c .before .before .before .before .in-step .result) _ (c .before .before .before .before .in-step .ensures) (c .before .before .before .if5 .left) in
+    let sampled1 = says-held (c .before .before .samples-right .result) _ (c .before .before .samples-right .ensures) (c .before .if6 .left) in
     says-same (c .samples-right2 .result) _ _ (λ s. record { right1 = right1; right0 = right0; inStep = inStep; sampled1 = sampled1; sampled0 = s }) (λ s. s .sampled0) (c .samples-right2 .ensures)
 
 pub strings-pass-spec : {M : Type 1} → statement M
 strings-pass-spec =
     tie.close
     (tie.spec
-    string-right-requires
+    full-blocks-right-requires
     returns
+    add-full-blocks-right
+    full-blocks-right-requires-2
+    returns-2
+    string-right-requires
+    returns-3
     add-string-right
     string-right-requires-2
-    returns-2
-    in-step-requires
-    returns-3
-    samples-right-requires
     returns-4
+    in-step-requires
+    returns-5
+    samples-right-requires
+    returns-6
     add-samples-right
     samples-right-requires-2
-    returns-5)
+    returns-7)
