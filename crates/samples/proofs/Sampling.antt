@@ -20,7 +20,7 @@ use Rattle.parts.specs.Parts.{Counted, onesTo}
 use Rattle.parts.proofs.Ones.{onesTo-take, onesTo-next, onesTo-mono, onesTo-block, string-at}
 use Rattle.sample_words.specs.Words.{RestZero}
 use Rattle.piece_samples.specs.Pieces.{SampledHere, PieceSampled}
-use Rattle.samples.specs.Samples.{SampledWithin, BlocksRight}
+use Rattle.samples.specs.Samples.{SampledWithin, BlocksRight, Placed}
 
 -- ---- one sample
 
@@ -70,14 +70,20 @@ module _ (bytes : List ℕ) (from first n m : ℕ) (count : m ≡ onesTo bytes f
       sample-of-one r p q (omega (arith, length-stringIn bytes first 0 n)) (string-at bytes first n p h ∙ e) (onesTo-take bytes first p n (omega arith) ∙ c)
       (omega (arith, onesTo-next bytes first p 1 (ap value (sym e)), onesTo-mono bytes first (p + 1) n (omega arith)))
 
-  matched : SampledWithin bytes from first 0 n → (q : ℕ) → q < length (samples r) → sampleIn bytes from q ≡ getD (samples r) q 0
-  matched all q h =
-      let o = one-there r (64 * q) (omega (arith, length-samples r)) in
+  -- where the one of a sample stands
+  there : SampledWithin bytes from first 0 n → (q : ℕ) → 64 * q < m → (p : ℕ) × (p < n) × (bitAt bytes (bitPlace first p) ≡ I) × (onesTo bytes first p ≡ 64 * q) × (sampleIn bytes from q ≡ p + 1)
+  there all q h =
+      let o = one-there r (64 * q) (omega arith) in
       let p = o .0 in
       let l : p < n = omega (arith, o .1, length-stringIn bytes first 0 n) in
       let c : onesTo bytes first p ≡ 64 * q = sym (onesTo-take bytes first p n (omega arith)) ∙ o .3 in
       let e = sym (string-at bytes first n p l) ∙ o .2 in
-      ap (sampleIn bytes from) (let f : q ≡ onesTo bytes first p / 64 = omega arith in f) ∙ all p (omega arith) l e (omega arith) ∙ sym (sample-here p q l e c)
+      (p, l, e, c, ap (sampleIn bytes from) (let f : q ≡ onesTo bytes first p / 64 = omega arith in f) ∙ all p (omega arith) l e (omega arith))
+
+  matched : SampledWithin bytes from first 0 n → (q : ℕ) → q < length (samples r) → sampleIn bytes from q ≡ getD (samples r) q 0
+  matched all q h =
+      let o = there all q (omega (arith, length-samples r)) in
+      o .4 ∙ sym (sample-here (o .0) q (o .1) (o .2) (o .3))
 
   pub sampled : SampledWithin bytes from first 0 n → RestZero bytes from m → Sampled bytes from m r
   unfolding sampleWord
@@ -111,3 +117,9 @@ module _ (bytes : List ℕ) (from first n m : ℕ) (count : m ≡ onesTo bytes f
     few = omega (arith, onesTo-mono bytes first (4000 * ((n - 1) / 4000)) n (omega arith));
     sampled = λ p h g. sampled-within s p h (omega arith);
   }
+
+  pub placed : Sampled bytes from m r → Placed bytes from first m
+  unfolding value
+  placed s q h =
+      let o = there (sampled-within s) q h in
+      (o .0, o .3, onesTo-next bytes first (o .0) 1 (ap value (sym (o .2))) ∙ ap (λ k. k + 1) (o .3), o .4)

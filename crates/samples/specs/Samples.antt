@@ -4,7 +4,7 @@ use mathlib.Core.List.{List}
 use Prim.Native.Nat.{ℕ, _+_, _-_, _*_, _/_, _≤_, _<_}
 use Rattle.meaning.specs.Strings.{I}
 use Rattle.meaning.specs.Bytes.{bitAt}
-use Rattle.theory.specs.Layout.{bitPlace}
+use Rattle.theory.specs.Layout.{bitPlace, sampleIn}
 use Rattle.parts.specs.Parts.{Counted, onesTo}
 use Rattle.piece_samples.specs.Pieces.{SampledHere}
 
@@ -25,3 +25,8 @@ pub record BlocksRight (bytes : List ℕ) (from m first n : ℕ) : Type 0 where
   pub counted : Counted bytes first n
   pub few : onesTo bytes first (4000 * ((n - 1) / 4000)) ≤ m
   pub sampled : SampledWithin bytes from first 0 (4000 * ((n - 1) / 4000))
+
+-- a string with m ones: every sample is the position, from 1, of a one that 64 times its number of ones come before
+abbrev pub Placed : List ℕ → ℕ → ℕ → ℕ → Type 0
+Placed bytes from first m =
+    (q : ℕ) → 64 * q < m → (p : ℕ) × (onesTo bytes first p ≡ 64 * q) × (onesTo bytes first (p + 1) ≡ 64 * q + 1) × (sampleIn bytes from q ≡ p + 1)

@@ -39,13 +39,13 @@ fn strings_pass(b: &[u8], n: usize, m: u32, zeros: usize, samples1: usize, sampl
     if !string_right(b, zeros, n + 1, m) {
         return false;
     }
-    if !in_step(b, zeros, n) {
-        return false;
-    }
     if !samples_right(b, samples1, m, 1, n) {
         return false;
     }
-    samples_right(b, samples0, m, zeros, n + 1)
+    if !samples_right(b, samples0, m, zeros, n + 1) {
+        return false;
+    }
+    in_step(b, zeros, n, m as usize, samples1, samples0)
 }
 
 // Of an image whose blocks all check: does it pass the stages behind that?

@@ -1,7 +1,8 @@
 -- Two strings of an image in step, block by block: the ones among the first bits of each.
 use mathlib.Core.Path.{_≡_, sym, ap, _∙_}
 use mathlib.Core.List.{List}
-use Prim.Native.Nat.{ℕ, _+_, _-_, _*_, _≤_, _<_}
+use Prim.Native.Nat.{ℕ, _+_, _-_, _*_, _/_, _≤_, _<_}
+use native.Mathlib.Decide.{decLt}
 use native.Mathlib.Omega.{arith}
 use Rattle.meaning.specs.Strings.{Bit}
 use Rattle.meaning.specs.Bytes.{value, bitAt}
@@ -14,6 +15,8 @@ use Rattle.bit.proofs.Values.{is-O, is-I}
 use Rattle.parts.specs.Parts.{onesTo}
 use Rattle.parts.proofs.Ones.{onesTo-take, onesTo-mono, onesTo-block, string-at}
 use Rattle.byte_steps.specs.Steps.{StepAt}
+use Rattle.samples.specs.Samples.{Placed}
+use Rattle.sample_steps.specs.Ahead.{Ahead}
 use Rattle.steps.specs.Steps.{StepWithin}
 
 module _ (bytes : List ℕ) (zeros : ℕ) where
@@ -39,6 +42,20 @@ module _ (bytes : List ℕ) (zeros : ℕ) where
   -- a block behind which R1 has no more than R0 before it
   pub step-behind : (a b : ℕ) → onesTo bytes 1 b ≤ onesTo bytes zeros a → StepWithin bytes zeros a b
   step-behind a b e p h l = omega (arith, onesTo-mono bytes 1 p b (omega arith), onesTo-mono bytes zeros a p (omega arith))
+
+  -- a block where R0's samples are ahead
+  pub step-sampled : (s1 s0 m k end a b : ℕ) → Placed bytes s1 1 m → Placed bytes s0 zeros m → k ≡ onesTo bytes 1 a → end ≡ onesTo bytes 1 b → Ahead bytes s1 s0 k end m → StepWithin bytes zeros a b
+  step-sampled s1 s0 m k end a b placed1 placed0 ek ee ahead p h l =
+      let more = onesTo-mono bytes 1 a p h in
+      let most = onesTo-mono bytes 1 p b (omega arith) in
+      let s = (onesTo bytes 1 p - 1) / 64 in
+      let own = placed1 s (omega (arith, ahead .0, ahead .1)) in
+      let next = placed0 (s + 1) (omega (arith, ahead .0, ahead .1)) in
+      let first = ahead .2 s (omega (arith, ahead .0)) (omega (arith, ahead .0)) in
+      elim (decLt (own .0) p) [
+        | yes g ↦ omega (arith, own .3, next .2, next .3, onesTo-mono bytes zeros (next .0 + 1) p (omega (arith, own .3, next .3)))
+        | no g ↦ absurd (omega (arith, ahead .0, own .1, onesTo-mono bytes 1 p (own .0) (omega arith)))
+      ]
 
   module _ (n : ℕ) where
     abbrev r1 : List Bit

@@ -4,12 +4,14 @@ ghost use Prim.Native.Nat.{_+_, _*_, _≤_};
 ghost use lib.ListN.{length};
 ghost use Rattle.meaning.specs.Image.{stringIn};
 ghost use Rattle.theory.specs.Layout.{wordAt};
-ghost use Rattle.theory.specs.Stages.{InStep, zerosFrom, samplesFrom};
+ghost use Rattle.theory.specs.Stages.{InStep, zerosFrom, samplesFrom, blocksOfSamples};
 ghost use Rattle.parts.specs.Says.{Says};
 ghost use Rattle.parts.specs.Parts.{Counted, onesTo};
+ghost use Rattle.samples.specs.Samples.{Placed};
 ghost use Rattle.steps.specs.Steps.{StepWithin};
 use image_words::word;
 use parts::string_bit;
+use sample_steps::samples_ahead;
 use strides::words_in_step;
 
 // Is R1 in step with R0 in the first n bits of their blocks number j?
@@ -35,32 +37,65 @@ fn block_in_step(b: &[u8], zeros: usize, j: usize, n: usize) -> bool
     )
 }
 
-// The same of a whole block of R1, behind which another comes.
-fn full_block_in_step(b: &[u8], zeros: usize, j: usize) -> bool
+// The same of a whole block of R1, behind which another comes; both strings have m ones, and their samples begin at these blocks.
+fn full_block_in_step(
+    b: &[u8],
+    zeros: usize,
+    j: usize,
+    m: usize,
+    samples1: usize,
+    samples0: usize,
+) -> bool
     requires { ⌜ j ≤ 16 ⌝ }
     requires { ⌜ zeros ≤ 53 ⌝ }
+    requires { ⌜ m ≤ 65536 ⌝ }
+    requires { ⌜ samples1 ≤ 53 ⌝ }
+    requires { ⌜ samples0 ≤ 53 ⌝ }
     requires { ⌜ 512 * (1 + j + 2) ≤ length (now b) ⌝ }
     requires { ⌜ 512 * (zeros + j + 1) ≤ length (now b) ⌝ }
+    requires { ⌜ 512 * (samples1 + blocksOfSamples m) ≤ length (now b) ⌝ }
+    requires { ⌜ 512 * (samples0 + blocksOfSamples m) ≤ length (now b) ⌝ }
     requires { ⌜ wordAt (now b) (512 * (1 + j)) ≡ onesTo (now b) 1 (4000 * j) ⌝ }
     requires { ⌜ wordAt (now b) (512 * (1 + j + 1)) ≡ onesTo (now b) 1 (4000 * j + 4000) ⌝ }
     requires { ⌜ wordAt (now b) (512 * (zeros + j)) ≡ onesTo (now b) zeros (4000 * j) ⌝ }
+    requires { ⌜ Placed (now b) samples1 1 m ⌝ }
+    requires { ⌜ Placed (now b) samples0 zeros m ⌝ }
     ensures { λ r. ⌜ Says r (StepWithin (now (b .entry)) zeros (4000 * j) (4000 * j + 4000)) ⌝ }
 {
+    let end = word(b, 512 * (1 + j + 1));
     // then R1 has no more behind the block than R0 before it
-    if word(b, 512 * (1 + j + 1)) <= word(b, 512 * (zeros + j)) {
+    if end <= word(b, 512 * (zeros + j)) {
+        return true;
+    }
+    // one of 64 ones is looked at
+    if samples_ahead(
+        b,
+        samples1,
+        samples0,
+        word(b, 512 * (1 + j)) as usize,
+        end as usize,
+        m,
+    ) {
         return true;
     }
     block_in_step(b, zeros, j, 4000)
 }
 
-// Are the runs of the two strings in step? The first bit of R1 is one, and before its last bit R1 never has more ones behind it than R0.
-pub fn in_step(b: &[u8], zeros: usize, n: usize) -> bool
+// Are the runs of the two strings in step? The first bit of R1 is one, and before its last bit R1 never has more ones behind it than R0. Both have m ones, and their samples begin at these blocks.
+pub fn in_step(b: &[u8], zeros: usize, n: usize, m: usize, samples1: usize, samples0: usize) -> bool
     requires { ⌜ 1 ≤ n ⌝ }
     requires { ⌜ n ≤ 65535 ⌝ }
     requires { ⌜ zeros ≡ zerosFrom n ⌝ }
     requires { ⌜ 512 * samplesFrom n ≤ length (now b) ⌝ }
     requires { ⌜ Counted (now b) 1 n ⌝ }
     requires { ⌜ Counted (now b) zeros (n + 1) ⌝ }
+    requires { ⌜ m ≤ 65536 ⌝ }
+    requires { ⌜ samples1 ≤ 53 ⌝ }
+    requires { ⌜ samples0 ≤ 53 ⌝ }
+    requires { ⌜ 512 * (samples1 + blocksOfSamples m) ≤ length (now b) ⌝ }
+    requires { ⌜ 512 * (samples0 + blocksOfSamples m) ≤ length (now b) ⌝ }
+    requires { ⌜ Placed (now b) samples1 1 m ⌝ }
+    requires { ⌜ Placed (now b) samples0 zeros m ⌝ }
     ensures { λ r. ⌜ Says r (InStep (stringIn (now (b .entry)) 1 0 n) (stringIn (now (b .entry)) zeros 0 (n + 1))) ⌝ }
 {
     if string_bit(b, 1, 0) == 0 {
@@ -69,7 +104,7 @@ pub fn in_step(b: &[u8], zeros: usize, n: usize) -> bool
     let last = (n - 1) / 4000;
     let mut j: usize = 0;
     while j < last {
-        if !full_block_in_step(b, zeros, j) {
+        if !full_block_in_step(b, zeros, j, m, samples1, samples0) {
             return false;
         }
         j += 1;

@@ -14,10 +14,10 @@ use Rattle.steps.proofs.in_step.Statement.{statement}
 use Rattle.steps.proofs.in_step.Tie as tie
 
 abbrev Inv-loop : tie.InvT-loop
-Inv-loop b zeros n last j₀ j = (j ≤ (n - 1) / 4000) × StepWithin b zeros 0 (4000 * j)
+Inv-loop b zeros n m samples1 samples0 last j₀ j = (j ≤ (n - 1) / 4000) × StepWithin b zeros 0 (4000 * j)
 
 abbrev μ-loop : tie.MeasureT-loop
-μ-loop b zeros n last j₀ j = (n - 1) / 4000 - j
+μ-loop b zeros n m samples1 samples0 last j₀ j = (n - 1) / 4000 - j
 
 string-bit-requires : tie.Need-string-bit-requires Inv-loop μ-loop
 string-bit-requires c κs = (omega arith, (omega arith, omega arith))
@@ -37,9 +37,10 @@ full-block-in-step-requires c κs =
     let b = s .args .b .now in
     let j = c .before .loop .j in
     let counted1 = s .pre .1 .1 .1 .1 .0 in
+    let more = s .pre .1 .1 .1 .1 .1 .1 in
     let behind = ap (wordAt b) (let e : 512 * (1 + j + 1) ≡ 512 * (1 + (j + 1)) = omega arith in e) ∙ counted1 (j + 1) (omega arith)
     ∙ ap (onesTo b 1) (let e : 4000 * (j + 1) ≡ 4000 * j + 4000 = omega arith in e) in
-    (omega arith, (omega arith, (omega arith, (omega arith, (counted1 j (omega arith), (behind, s .pre .1 .1 .1 .1 .1 j (omega arith)))))))
+    (omega arith, (omega arith, (omega arith, (omega arith, (omega arith, (omega arith, (omega arith, (omega arith, (omega arith, (counted1 j (omega arith), (behind, (s .pre .1 .1 .1 .1 .1 .0 j (omega arith), (more .1 .1 .1 .1 .1 .0, more .1 .1 .1 .1 .1 .1)))))))))))))
 
 returns-2 : tie.Need-returns-2 Inv-loop μ-loop
 returns-2 c =
@@ -71,7 +72,7 @@ sub-block-in-step c = omega arith
 block-in-step-requires : tie.Need-block-in-step-requires Inv-loop μ-loop
 block-in-step-requires c κs =
     let j = (c .before .before .before .before .before .args .n - 1) / 4000 in
-    (omega arith, (omega arith, (omega arith, (omega arith, (omega arith, (c .before .before .before .before .before .pre .1 .1 .1 .1 .0 j (omega arith), c .before .before .before .before .before .pre .1 .1 .1 .1 .1 j (omega arith)))))))
+    (omega arith, (omega arith, (omega arith, (omega arith, (omega arith, (c .before .before .before .before .before .pre .1 .1 .1 .1 .0 j (omega arith), c .before .before .before .before .before .pre .1 .1 .1 .1 .1 .0 j (omega arith)))))))
 
 returns-3 : tie.Need-returns-3 Inv-loop μ-loop
 returns-3 c =
