@@ -1,6 +1,5 @@
 -- `tally::ones_without` meets its contract.
 use borrow.Author.Needs.{needs}
-use native.Mathlib.Omega.{arith}
 use lib.Bits.{and-le-l}
 use Rattle.tally.proofs.Words.{without-ones}
 use Rattle.tally.proofs.ones_without.Statement.{statement}
