@@ -44,17 +44,17 @@ module _ (bytes : List ℕ) (zeros : ℕ) where
   step-behind a b e p h l = omega (arith, onesTo-mono bytes 1 p b (omega arith), onesTo-mono bytes zeros a p (omega arith))
 
   -- a block where R0's samples are ahead
-  pub step-sampled : (s1 s0 m k end a b : ℕ) → Placed bytes s1 1 m → Placed bytes s0 zeros m → k ≡ onesTo bytes 1 a → end ≡ onesTo bytes 1 b → Ahead bytes s1 s0 k end m → StepWithin bytes zeros a b
-  step-sampled s1 s0 m k end a b placed1 placed0 ek ee ahead p h l =
+  pub step-sampled : (s1 s0 m k end by a b : ℕ) → Placed bytes s1 1 m → Placed bytes s0 zeros m → k ≡ onesTo bytes 1 a → end ≡ onesTo bytes 1 b → Ahead bytes s1 s0 k end m by → StepWithin bytes zeros a b
+  step-sampled s1 s0 m k end by a b placed1 placed0 ek ee ahead p h l =
       let more = onesTo-mono bytes 1 a p h in
       let most = onesTo-mono bytes 1 p b (omega arith) in
-      let s = (onesTo bytes 1 p - 1) / 64 in
-      let own = placed1 s (omega (arith, ahead .0, ahead .1)) in
-      let next = placed0 (s + 1) (omega (arith, ahead .0, ahead .1)) in
-      let first = ahead .2 s (omega (arith, ahead .0)) (omega (arith, ahead .0)) in
+      let seen = ahead .2 ((onesTo bytes 1 p - 1) / 64) (omega (arith, ahead .0)) (omega (arith, ahead .0)) in
+      let q = seen .0 in
+      let own = placed1 q (omega (arith, ahead .0, ahead .1, seen .1, seen .2)) in
+      let next = placed0 (q + by) (omega (arith, ahead .0, ahead .1, seen .1, seen .2)) in
       elim (decLt (own .0) p) [
-        | yes g ↦ omega (arith, own .3, next .2, next .3, onesTo-mono bytes zeros (next .0 + 1) p (omega (arith, own .3, next .3)))
-        | no g ↦ absurd (omega (arith, ahead .0, own .1, onesTo-mono bytes 1 p (own .0) (omega arith)))
+        | yes g ↦ omega (arith, ahead .0, seen .2, next .2, onesTo-mono bytes zeros (next .0 + 1) p (omega (arith, seen .3, own .3, next .3)))
+        | no g ↦ absurd (omega (arith, ahead .0, seen .1, own .1, onesTo-mono bytes 1 p (own .0) (omega arith)))
       ]
 
   module _ (n : ℕ) where

@@ -67,15 +67,13 @@ fn full_block_in_step(
     if end <= word(b, 512 * (zeros + j)) {
         return true;
     }
-    // one of 64 ones is looked at
-    if samples_ahead(
-        b,
-        samples1,
-        samples0,
-        word(b, 512 * (1 + j)) as usize,
-        end as usize,
-        m,
-    ) {
+    let before = word(b, 512 * (1 + j)) as usize;
+    // one in 256 ones is looked at
+    if samples_ahead(b, samples1, samples0, before, end as usize, m, 4) {
+        return true;
+    }
+    // one in 64
+    if samples_ahead(b, samples1, samples0, before, end as usize, m, 1) {
         return true;
     }
     block_in_step(b, zeros, j, 4000)

@@ -1,23 +1,29 @@
 -- `sample_steps::samples_ahead` meets its contract.
 use Prim.Native.Nat.{ℕ, _+_, _-_, _/_, _≤_, _<_}
+use native.Mathlib.Decide.{decLt}
 use native.Mathlib.Omega.{arith}
-use Rattle.theory.specs.Layout.{sampleIn}
-use Rattle.parts.proofs.Within.{within-more}
+use Rattle.sample_steps.specs.Ahead.{Seen}
 use Rattle.sample_steps.proofs.samples_ahead.Statement.{statement}
 use Rattle.sample_steps.proofs.samples_ahead.Tie as tie
 
 abbrev Inv-loop : tie.InvT-loop
-Inv-loop b samples1 samples0 before end m to s₀ s =
-    ((before - 1) / 64 ≤ s) × ((q : ℕ) → (before - 1) / 64 ≤ q → q < s → sampleIn b samples0 (q + 1) ≤ sampleIn b samples1 q)
+Inv-loop b samples1 samples0 before end m by to s₀ s =
+    ((before - 1) / 64 ≤ s) × ((r : ℕ) → (before - 1) / 64 ≤ r → r < s → Seen b samples1 samples0 by r)
 
 abbrev μ-loop : tie.MeasureT-loop
-μ-loop b samples1 samples0 before end m to s₀ s = to - s
+μ-loop b samples1 samples0 before end m by to s₀ s = to - s
 
 returns : tie.Need-returns Inv-loop μ-loop
 returns c = tt
 
 add-to : tie.Need-add-to Inv-loop μ-loop
 add-to c = omega arith
+
+add-if2 : tie.Need-add-if2 Inv-loop μ-loop
+add-if2 c = omega arith
+
+sub-if2 : tie.Need-sub-if2 Inv-loop μ-loop
+sub-if2 c = omega arith
 
 mul-if2 : tie.Need-mul-if2 Inv-loop μ-loop
 mul-if2 c = omega arith
@@ -79,8 +85,13 @@ loop-less c = omega arith
 loop-again : tie.Need-loop-again Inv-loop μ-loop
 loop-again c =
     let l = c .before .before .before .before .loop in
-    let a = c .before .before .before .before .before .before .before .before .args in
-    (omega arith, within-more (λ q. sampleIn (a .b .now) (a .samples0) (q + 1) ≤ sampleIn (a .b .now) (a .samples1) q) ((a .before - 1) / 64) (l .s) (l .inv .1) (omega (arith, c .before .before .word .ensures, c .before .word2 .ensures)))
+    let a = c .before .before .before .before .before .before .before .before .args in (
+      omega arith,
+      λ r h g. elim (decLt r (l .s)) [
+        | yes f ↦ l .inv .1 r h f
+        | no f ↦ (l .s, omega arith, omega arith, omega (arith, c .before .before .word .ensures, c .before .word2 .ensures))
+      ],
+    )
 
 returns-4 : tie.Need-returns-4 Inv-loop μ-loop
 returns-4 c =
@@ -95,6 +106,8 @@ samples-ahead-spec =
     μ-loop
     returns
     add-to
+    add-if2
+    sub-if2
     mul-if2
     returns-2
     sub-s
