@@ -14,6 +14,7 @@ pub struct Sums {
 }
 
 // The sums of the 126 words from byte `at` on, s from `start` and t from 0: each word is added to s, and then s to t.
+// The words are counted by their bytes, so that a word is found by one addition.
 pub fn block_sums(b: &[u8], at: usize, start: u32) -> Sums
     requires { ⌜ at + 504 ≤ length (now b) ⌝ }
     ensures { λ r. ⌜ sumsOf r ≡ sums (words (take 504 (drop at (now (b .entry))))) start 0 ⌝ }
@@ -21,10 +22,10 @@ pub fn block_sums(b: &[u8], at: usize, start: u32) -> Sums
     let mut s = start;
     let mut t: u32 = 0;
     let mut i: usize = 0;
-    while i < 126 {
-        s = wrapping_add_u32(s, word(b, at + 4 * i));
+    while i < 504 {
+        s = wrapping_add_u32(s, word(b, at + i));
         t = wrapping_add_u32(t, s);
-        i += 1;
+        i += 4;
     }
     Sums { s: s, t: t }
 }

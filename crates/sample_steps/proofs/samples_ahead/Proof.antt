@@ -1,5 +1,5 @@
 -- `sample_steps::samples_ahead` meets its contract.
-use Prim.Native.Nat.{ℕ, _+_, _-_, _/_, _≤_, _<_}
+use Prim.Native.Nat.{ℕ, _-_, _/_, _≤_, _<_}
 use native.Mathlib.Decide.{decLt}
 use native.Mathlib.Omega.{arith}
 use Rattle.sample_steps.specs.Ahead.{Seen}

@@ -1,25 +1,23 @@
 -- `sums::block_sums` meets its contract.
-use mathlib.Core.Path.{_≡_, refl}
-use Prim.Native.Nat.{_-_, _≤_}
+use mathlib.Core.Path.{_≡_, refl, ap, _∙_}
+use Prim.Native.Nat.{ℕ, _+_, _-_, _*_, _≤_}
 use borrow.Author.Needs.{needs}
 use native.Mathlib.Omega.{arith}
 use lib.ListN.{drop}
 use Rattle.meaning.specs.Blocks.{sums}
+use Rattle.theory.specs.Layout.{wordAt}
 use Rattle.sums.proofs.Summing.{wordsFrom, sums-next, sums-last}
 use Rattle.sums.proofs.block_sums.Statement.{statement}
 use Rattle.sums.proofs.block_sums.Tie as tie
 
 abbrev Inv-loop : tie.InvT-loop
-Inv-loop b at start s₀ t₀ i₀ s t i = (i ≤ 126) × (sums (drop i (wordsFrom b at)) s t ≡ sums (wordsFrom b at) start 0)
+Inv-loop b at start s₀ t₀ i₀ s t i = (k : ℕ) × (k ≤ 126) × (i ≡ 4 * k) × (sums (drop k (wordsFrom b at)) s t ≡ sums (wordsFrom b at) start 0)
 
 abbrev μ-loop : tie.MeasureT-loop
-μ-loop b at start s₀ t₀ i₀ s t i = 126 - i
+μ-loop b at start s₀ t₀ i₀ s t i = 504 - i
 
 loop-holds : tie.Need-loop-holds Inv-loop μ-loop
-loop-holds c = (omega arith, refl)
-
-mul-word : tie.Need-mul-word Inv-loop μ-loop
-mul-word c = omega arith
+loop-holds c = (0, omega arith, refl, refl)
 
 add-word : tie.Need-add-word Inv-loop μ-loop
 add-word c = omega arith
@@ -42,16 +40,20 @@ loop-less c = omega arith
 loop-again : tie.Need-loop-again Inv-loop μ-loop
 loop-again c =
     let a = c .before .before .before .before .before .before .args in
-    let l = c .before .before .before .before .loop in (
+    let v = c .before .before .before .before .loop .inv in
+    let k = v .0 in
+    let word = c .before .before .word .ensures ∙ ap (λ i. wordAt (a .b .now) (a .at + i)) (v .2) in (
+      k + 1,
       omega arith,
-      sums-next (a .b .now) (a .at) (omega arith) (l .i) _ _ _ _ _ _ (omega arith) (l .inv .1) (c .before .before .word .ensures) (c .before .wrapping-add-u32 .ensures) (c .wrapping-add-u322 .ensures),
+      omega arith,
+      sums-next (a .b .now) (a .at) (omega arith) k _ _ _ _ _ _ (omega arith) (v .3) word (c .before .wrapping-add-u32 .ensures) (c .wrapping-add-u322 .ensures),
     )
 
 returns : tie.Need-returns Inv-loop μ-loop
 returns c =
     let a = c .before .before .before .args in
-    let l = c .before .loop in
-    sums-last (a .b .now) (a .at) (omega arith) (l .i) _ _ _ (omega arith) (l .inv .1)
+    let v = c .before .loop .inv in
+    sums-last (a .b .now) (a .at) (omega arith) (v .0) _ _ _ (omega arith) (v .3)
 
 pub block-sums-spec : {M : Type 1} → statement M
 block-sums-spec =
@@ -60,7 +62,6 @@ block-sums-spec =
     Inv-loop
     μ-loop
     loop-holds
-    mul-word
     add-word
     word-requires
     wrapping-add-u32-requires
