@@ -12,11 +12,11 @@ use Rattle.meaning.specs.Image.{parentsIn}
 use Rattle.meaning.specs.Questions.{Ask, nextSibling, previousSibling, leaf, answer}
 use Rattle.theory.specs.ByStrings.{whereZero, bitOf, byStrings}
 use Rattle.theory.specs.Stages.{readR1, readR0}
-use Rattle.checked.specs.declared.Image.{Image}
-use Rattle.checked.specs.declared.Checked.the-variants.{Sound}
-use Rattle.checked.specs.Checked.{checked}
+use Rattle.image_found.specs.declared.Image.{Image}
+use Rattle.image_found.specs.declared.Checked.the-variants.{Sound}
+use Rattle.image_found.specs.Checked.{checked}
 use Rattle.bit.proofs.Values.{is-O, is-I}
-use Rattle.runs.proofs.Own.{strings}
+use Rattle.nav_sibling_range.proofs.Own.{strings}
 
 -- the strings of a sound image, and a node
 module _ (bytes : List ℕ) (i : Image) (found : checked bytes ≡ Sound i) (x : ℕ) (g : 1 ≤ x) (h : x ≤ i .nodes) where

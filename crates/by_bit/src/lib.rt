@@ -7,10 +7,10 @@ ghost use Rattle.meaning.specs.Image.{parentsIn};
 ghost use Rattle.meaning.specs.Questions.{answer, nextSibling, previousSibling, leaf};
 ghost use Rattle.theory.specs.Stages.{readR1, readR0};
 ghost use Rattle.theory.specs.ByStrings.{bitOf};
-ghost use Rattle.checked.specs.declared.Checked.the-variants.{Sound};
-ghost use Rattle.checked.specs.Checked.{checked};
-use checked::Image;
-use parts::string_bit;
+ghost use Rattle.image_found.specs.declared.Checked.the-variants.{Sound};
+ghost use Rattle.image_found.specs.Checked.{checked};
+use image_found::Image;
+use image_string::string_bit;
 
 // Bit x, from 1, of R1.
 fn bit_r1(b: &[u8], image: Image, x: usize) -> u8

@@ -7,7 +7,7 @@ use native.Mathlib.Omega.{arith}
 use borrow.Author.Count.{below-more}
 use Rattle.meaning.specs.Strings.{ones}
 use Rattle.meaning.specs.Bytes.{bitsFrom}
-use Rattle.tally.proofs.Runs.{ones-cut, ones-after}
+use Rattle.bits_count.proofs.Runs.{ones-cut, ones-after}
 use Rattle.byte_steps.specs.Steps.{StepAt}
 
 module _ (bytes : List ℕ) (at1 at0 k1 k0 : ℕ) where

@@ -4,10 +4,10 @@ ghost use Prim.Native.Nat.{_+_, _*_, _/_, _≤_};
 ghost use lib.ListN.{length};
 ghost use Rattle.meaning.specs.Strings.{ones};
 ghost use Rattle.meaning.specs.Bytes.{bitsFrom};
-ghost use Rattle.parts.specs.Says.{Says};
+ghost use Rattle.image_string.specs.Says.{Says};
 ghost use Rattle.byte_steps.specs.Steps.{StepAt};
 use bit::bit_at;
-use byte::ones_in_byte;
+use bits_byte::ones_in_byte;
 
 // Of n bits of R1 from byte `at1` on, which `ones1` ones come before, and n of R0 from `at0` on, which `ones0` come before: is R1 in step with R0 at each of them? Bit by bit.
 fn bits_in_step(b: &[u8], at1: usize, at0: usize, n: usize, ones1: usize, ones0: usize) -> bool

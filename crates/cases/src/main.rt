@@ -1,15 +1,15 @@
-// Runs a script of cases, which it reads: each line is a word and numbers (crate `script`), the words told apart by their first letters; any other line
+// Runs a script of cases, which it reads: each line is a word and numbers (crate `cases_script`), the words told apart by their first letters; any other line
 // is a remark. A tree, and bytes in hand (a string, a pack or an image), stay from line to line. Each line is printed, and below it what the public call
 // came to and every list that it wrote to, whole. Such a list holds 9s before the call: what is not written must stay. A number that a line lacks is 0, and
 // a size is cut to what there is, so that every script is safe to run.
 ghost use Prim.Native.Nat.{_<_};
 ghost use lib.ListN.{length};
+use cases_script::number;
+use cases_script::room;
+use cases_script::signed;
+use cases_script::size;
+use cases_show::Digest;
 use meaning::Answer;
-use script::number;
-use script::room;
-use script::signed;
-use script::size;
-use show::Digest;
 use std::num::wrapping_add_u32;
 
 fn call_bytes(letter: u8, numbers: &[u32], parents: &[u32], list: &mut [u8]) -> Answer {
@@ -21,8 +21,8 @@ fn call_bytes(letter: u8, numbers: &[u32], parents: &[u32], list: &mut [u8]) -> 
 }
 
 fn make_in(letter: u8, numbers: &[u32], parents: &[u32], list: &mut [u8]) {
-    show::answered(call_bytes(letter, numbers, parents, list));
-    show::bytes(list);
+    cases_show::answered(call_bytes(letter, numbers, parents, list));
+    cases_show::bytes(list);
 }
 
 // encode NODES ROOM             the tree's string, in hand
@@ -31,7 +31,7 @@ fn make_in(letter: u8, numbers: &[u32], parents: &[u32], list: &mut [u8]) {
 fn make(letter: u8, numbers: &[u32], parents: &[u32], bytes: &mut [u8]) {
     let n = room(numbers, 0, parents.len());
     let m = room(numbers, 1, bytes.len());
-    script::alter(letter, numbers, bytes);
+    cases_script::alter(letter, numbers, bytes);
     make_in(letter, numbers, &parents[0..n], &mut bytes[0..m]);
 }
 
@@ -47,7 +47,7 @@ fn name_node(asked: &mut [i32], node: i32) {
 fn after_answers(before: Digest, image: &[u8], asked: &[i32]) -> Digest {
     let mut answers = [9u32; 27];
     parlaqen::plq_ask(image, asked, &mut answers);
-    show::after_words(before, &answers)
+    cases_show::after_words(before, &answers)
 }
 
 // nodes BYTES FIRST NODES NUMBER..    26 questions about each of so many nodes, in place of the node that they name, with room for 27 answers:
@@ -59,17 +59,17 @@ fn nodes(numbers: &[u32], image: &[u8]) {
         s: 0,
         t: 0,
     };
-    script::put_signed(numbers, 3, &mut asked);
+    cases_script::put_signed(numbers, 3, &mut asked);
     for i in 0..number(numbers, 2) {
         name_node(&mut asked, signed(wrapping_add_u32(number(numbers, 1), i)));
         d = after_answers(d, image, &asked);
     }
-    show::summed(d);
+    cases_show::summed(d);
 }
 
 fn ask(numbers: &[u32], image: &[u8], list: &mut [u32]) -> Answer {
     let mut asked = [0i32; 1024];
-    let n = script::put_signed(numbers, 2, &mut asked);
+    let n = cases_script::put_signed(numbers, 2, &mut asked);
     parlaqen::plq_ask(image, &asked[0..n], list)
 }
 
@@ -83,10 +83,10 @@ fn call_words(letter: u8, numbers: &[u32], bytes: &[u8], list: &mut [u32]) -> An
 }
 
 fn read_in(letter: u8, numbers: &[u32], parents: &[u32], bytes: &[u8], list: &mut [u32]) {
-    show::answered(call_words(letter, numbers, bytes, list));
-    show::words(list);
+    cases_show::answered(call_words(letter, numbers, bytes, list));
+    cases_show::words(list);
     if letter == b'u' {
-        show::equal(parents, list);
+        cases_show::equal(parents, list);
     }
 }
 
@@ -101,9 +101,15 @@ fn read(letter: u8, numbers: &[u32], parents: &[u32], bytes: &[u8]) {
 }
 
 fn split_in(numbers: &[u32], pack: &[u8], starts: &mut [u32], sizes: &mut [u32]) {
-    show::answered(parlaqen::plq_split(pack, size(numbers, 3), size(numbers, 4), starts, sizes));
-    show::words(starts);
-    show::words(sizes);
+    cases_show::answered(parlaqen::plq_split(
+        pack,
+        size(numbers, 3),
+        size(numbers, 4),
+        starts,
+        sizes,
+    ));
+    cases_show::words(starts);
+    cases_show::words(sizes);
 }
 
 // split BYTES ROOM ROOM BITS TREES    the starts and the sizes of the trees of the pack in hand
@@ -118,13 +124,13 @@ fn split(numbers: &[u32], pack: &[u8]) {
 // view END FROM      some of the bytes in hand
 fn view(numbers: &[u32], bytes: &[u8]) {
     let from = room(numbers, 1, bytes.len());
-    show::bytes(&bytes[from..]);
+    cases_show::bytes(&bytes[from..]);
 }
 
 // check BYTES        the check of the image
 fn look_at(letter: u8, numbers: &[u32], parents: &[u32], bytes: &[u8]) {
     match letter {
-        b'c' => show::answered(parlaqen::plq_check_image(bytes)),
+        b'c' => cases_show::answered(parlaqen::plq_check_image(bytes)),
         b'd' | b'u' | b'a' | b'l' => read(letter, numbers, parents, bytes),
         b'n' => nodes(numbers, bytes),
         b's' => split(numbers, bytes),
@@ -140,8 +146,8 @@ fn look(letter: u8, numbers: &[u32], parents: &[u32], bytes: &[u8]) {
 
 fn obey(letter: u8, numbers: &[u32], parents: &mut [u32], bytes: &mut [u8]) {
     match letter {
-        b'p' | b'g' | b'b' | b'm' => script::plant(letter, numbers, parents),
-        b'h' | b'f' | b'r' => script::alter(letter, numbers, bytes),
+        b'p' | b'g' | b'b' | b'm' => cases_script::plant(letter, numbers, parents),
+        b'h' | b'f' | b'r' => cases_script::alter(letter, numbers, bytes),
         b'e' | b'i' | b'j' => make(letter, numbers, parents, bytes),
         _ => look(letter, numbers, parents, bytes),
     }
@@ -151,14 +157,14 @@ fn step(line: &[u8], parents: &mut [u32], bytes: &mut [u8])
     requires { ⌜ 0 < length (now line) ⌝ }
 {
     let mut numbers = [0u32; 1024];
-    let n = script::numbers_of(line, &mut numbers);
+    let n = cases_script::numbers_of(line, &mut numbers);
     obey(line[0], &numbers[0..n], parents, bytes);
 }
 
 fn run(text: &[u8], parents: &mut [u32], bytes: &mut [u8]) {
     let mut at: usize = 0;
     while at < text.len() {
-        let end = script::line_end(text, at);
+        let end = cases_script::line_end(text, at);
         io::write_all(1, &text[at..end]);
         step(&text[at..end], parents, bytes);
         at = end;

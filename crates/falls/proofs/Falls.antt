@@ -5,7 +5,7 @@ use native.Mathlib.Omega.{arith}
 use lib.ListN.{length}
 use Rattle.meaning.specs.Strings.{Bit, O, I, ones}
 use Rattle.theory.proofs.Packing.{bits-length}
-use Rattle.byte.specs.Byte.{byteBits}
+use Rattle.bits_byte.specs.Byte.{byteBits}
 use Rattle.falls.specs.Falls.{fall}
 
 pub fall-le : (bs : List Bit) → fall bs ≤ length bs

@@ -5,8 +5,8 @@ use Prim.Native.Nat.{ℕ, _/_, _%_}
 use lib.Dec.{eqb, eqb→eq}
 use lib.ListN.{getD}
 use Rattle.meaning.specs.Bytes.{bit, bitAt, bitsFrom}
-use Rattle.byte.specs.Byte.{byteBits}
-use Rattle.byte.proofs.Table.{at}
+use Rattle.bits_byte.specs.Byte.{byteBits}
+use Rattle.bits_byte.proofs.Table.{at}
 use Rattle.falls.specs.Falls.{Falls, fall}
 
 abbrev pub table : List (List ℕ)

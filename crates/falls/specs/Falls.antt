@@ -4,7 +4,7 @@ use mathlib.Core.List.{List, [], _∷_}
 use Prim.Native.Nat.{ℕ, suc, _-_, _/_, _%_, _<_}
 use lib.ListN.{getD}
 use Rattle.meaning.specs.Strings.{Bit, O, I}
-use Rattle.byte.specs.Byte.{byteBits}
+use Rattle.bits_byte.specs.Byte.{byteBits}
 
 -- how far the pending nodes fall at most while bits are read: a zero takes one away, a one adds one
 unfoldable pub fall : List Bit → ℕ

@@ -1,6 +1,6 @@
 // How far the pending nodes of a tree fall while a byte is read, by a table that the caller lends.
 ghost use mathlib.Core.Path.{_≡_};
-ghost use Rattle.byte.specs.Byte.{byteBits};
+ghost use Rattle.bits_byte.specs.Byte.{byteBits};
 ghost use Rattle.falls.specs.Falls.{Falls, fall};
 
 // The table's entry of a byte.

@@ -1,9 +1,9 @@
 // What the last block of a string of an image keeps: zeros in the unused bits.
 ghost use Prim.Native.Nat.{_+_, _≤_};
 ghost use lib.ListN.{length};
-ghost use Rattle.parts.specs.Says.{Says};
-ghost use Rattle.parts.specs.Parts.{Unused};
-use parts::zeros_between;
+ghost use Rattle.image_string.specs.Says.{Says};
+ghost use Rattle.image_string.specs.Parts.{Unused};
+use image_string::zeros_between;
 
 // Of the 4,000 bits from byte `at` on, are those after the first `used` zero: the rest of a byte, then whole bytes?
 pub fn rest_zero(b: &[u8], at: usize, used: usize) -> bool

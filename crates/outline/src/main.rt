@@ -1,5 +1,5 @@
 // The outline program: reads an image, and prints its outline.
-use outlining::outline;
+use outline_page::outline;
 
 fn main() {
     // one byte more than the largest image

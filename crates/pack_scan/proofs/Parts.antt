@@ -14,11 +14,11 @@ use Rattle.meaning.specs.Bytes.{bitsFrom}
 use Rattle.meaning.specs.Scan.{many, closed, refusal, place}
 use Rattle.meaning.specs.Packs.{sizesFrom, sizes, startsFrom, starts}
 use Rattle.theory.proofs.Packing.{bits-length, rest-nil, rest-drop}
-use Rattle.closing.specs.Ends.{over, refused, treeEnd}
-use Rattle.scan.specs.Ends.{endOf}
-use Rattle.scan.specs.declared.TreeEnd.{TreeEnd}
-use Rattle.scan.specs.declared.TreeEnd.the-variants.{Over, Refused}
-use Rattle.closing.proofs.Ends.{over-within, refused-within, many-refused, many-over, sizes-over, sizes-refused}
+use Rattle.string_end_laws.specs.Ends.{over, refused, treeEnd}
+use Rattle.string_end.specs.Ends.{endOf}
+use Rattle.string_end.specs.declared.TreeEnd.{TreeEnd}
+use Rattle.string_end.specs.declared.TreeEnd.the-variants.{Over, Refused}
+use Rattle.string_end_laws.proofs.Ends.{over-within, refused-within, many-refused, many-over, sizes-over, sizes-refused}
 use Rattle.pack_scan.specs.Found as F
 use Rattle.pack_scan.specs.Found.{found}
 

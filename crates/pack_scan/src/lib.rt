@@ -8,8 +8,8 @@ ghost use Rattle.meaning.specs.Packs.{sizes, starts};
 ghost use Rattle.falls.specs.Falls.{Falls};
 ghost use Rattle.pack_scan.specs.Found.{found, foundOf};
 use noting::note;
-use scan::TreeEnd;
-use scan::tree_end_by;
+use string_end::TreeEnd;
+use string_end::tree_end_by;
 
 // What the bits of a pack hold: so many trees, or the bit at which they are refused.
 pub enum Pack {

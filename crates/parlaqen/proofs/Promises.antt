@@ -9,10 +9,10 @@ use Rattle.meaning.specs.Answers.{Row, Outcome, counts, refusedWith, cameTo, se
 use Rattle.meaning.specs.Cases.{string-of-parents, parents-of-string, image-of-parents, parents-of-image, check-image, ask, list, split, join, does}
 use Rattle.meaning.specs.Calls.{stringOfParents, parentsOfString, imageOfParents, checkRows, checkImage, parentsOfImage, askImage, listImage, splitPack, joinPack}
 use Rattle.theorems.proofs.Promises as Theory
-use Rattle.strings.proofs.Promises as Strings
-use Rattle.packs.proofs.Promises as Packs
-use Rattle.images.proofs.Promises as Images
-use Rattle.outlining.proofs.Promises as Outline
+use Rattle.string_promises.proofs.Promises as Strings
+use Rattle.pack_promises.proofs.Promises as Packs
+use Rattle.image_promises.proofs.Promises as Images
+use Rattle.outline_page.proofs.Promises as Outline
 use Rattle.parlaqen.specs.Promises as P
 use Rattle.parlaqen.specs.Promises.{OneOf}
 

@@ -18,10 +18,10 @@ use Rattle.meaning.specs.Listing.{listing, deep}
 use Rattle.meaning.specs.Answers.{Outcome, cameTo}
 use Rattle.meaning.specs.Cases.{Call, string-of-parents, parents-of-string, image-of-parents, parents-of-image, check-image, ask, list, split, join, does}
 use Rattle.theorems.specs.Promises as Theory
-use Rattle.strings.specs.Promises as Strings
-use Rattle.packs.specs.Promises as Packs
-use Rattle.images.specs.Promises as Images
-use Rattle.outlining.specs.Promises as Outline
+use Rattle.string_promises.specs.Promises as Strings
+use Rattle.pack_promises.specs.Promises as Packs
+use Rattle.image_promises.specs.Promises as Images
+use Rattle.outline_page.specs.Promises as Outline
 
 -- ---- Demand 1. A `Call` is one of the nine with its inputs, whatever they are; `does` is what it comes to.
 

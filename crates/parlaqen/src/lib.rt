@@ -8,42 +8,42 @@ use meaning::Answer;
 pub extern "C" fn plq_string_of_parents(parents: &[u32], bytes: &mut [u8]) -> Answer
     ensures { λ r. ⌜ cameTo r (now (bytes .exit)) ≡ stringOfParents (now (parents .entry)) (now (bytes .entry)) ⌝ }
 {
-    encoding::string_of_parents(parents, bytes)
+    call_string_of_parents::string_of_parents(parents, bytes)
 }
 
 #[no_mangle]
 pub extern "C" fn plq_parents_of_string(bytes: &[u8], bits: usize, parents: &mut [u32]) -> Answer
     ensures { λ r. ⌜ cameTo r (now (parents .exit)) ≡ parentsOfString (now (bytes .entry)) bits (now (parents .entry)) ⌝ }
 {
-    decoding::parents_of_string(bytes, bits, parents)
+    call_parents_of_string::parents_of_string(bytes, bits, parents)
 }
 
 #[no_mangle]
 pub extern "C" fn plq_image_of_parents(parents: &[u32], image: &mut [u8]) -> Answer
     ensures { λ r. ⌜ cameTo r (now (image .exit)) ≡ imageOfParents (now (parents .entry)) (now (image .entry)) ⌝ }
 {
-    seal::image_of_parents(parents, image)
+    call_image_of_parents::image_of_parents(parents, image)
 }
 
 #[no_mangle]
 pub extern "C" fn plq_parents_of_image(image: &[u8], parents: &mut [u32]) -> Answer
     ensures { λ r. ⌜ cameTo r (now (parents .exit)) ≡ parentsOfImage (now (image .entry)) (now (parents .entry)) ⌝ }
 {
-    unseal::parents_of_image(image, parents)
+    call_parents_of_image::parents_of_image(image, parents)
 }
 
 #[no_mangle]
 pub extern "C" fn plq_check_image(image: &[u8]) -> Answer
     ensures { λ r. ⌜ cameTo r tt ≡ checkImage (now (image .entry)) ⌝ }
 {
-    image::check_image(image)
+    check_image::check_image(image)
 }
 
 #[no_mangle]
 pub extern "C" fn plq_ask(image: &[u8], questions: &[i32], answers: &mut [u32]) -> Answer
     ensures { λ r. ⌜ cameTo r (now (answers .exit)) ≡ askImage (now (image .entry)) (now (questions .entry)) (now (answers .entry)) ⌝ }
 {
-    questions::ask(image, questions, answers)
+    call_ask::ask(image, questions, answers)
 }
 
 #[no_mangle]
@@ -56,19 +56,19 @@ pub extern "C" fn plq_split(
 ) -> Answer
     ensures { λ r. ⌜ cameTo r (now (starts .exit), now (sizes .exit)) ≡ splitPack (now (bytes .entry)) bits trees (now (starts .entry)) (now (sizes .entry)) ⌝ }
 {
-    splitting::split(bytes, bits, trees, starts, sizes)
+    call_split::split(bytes, bits, trees, starts, sizes)
 }
 
 #[no_mangle]
 pub extern "C" fn plq_join(pack: &mut [u8], bits: usize, trees: usize, parents: &[u32]) -> Answer
     ensures { λ r. ⌜ cameTo r (now (pack .exit)) ≡ joinPack (now (pack .entry)) bits trees (now (parents .entry)) ⌝ }
 {
-    joining::join(pack, bits, trees, parents)
+    call_join::join(pack, bits, trees, parents)
 }
 
 #[no_mangle]
 pub extern "C" fn plq_list(image: &[u8], node: u32, pairs: &mut [u32]) -> Answer
     ensures { λ r. ⌜ cameTo r (now (pairs .exit)) ≡ listImage (now (image .entry)) node (now (pairs .entry)) ⌝ }
 {
-    listing::list(image, node, pairs)
+    call_list::list(image, node, pairs)
 }

@@ -7,9 +7,9 @@ use native.Mathlib.Omega.{arith}
 use Rattle.meaning.specs.Strings.{I, ones}
 use Rattle.meaning.specs.Bytes.{bitAt, bitsFrom}
 use Rattle.theory.specs.Layout.{samplePlace, sampleIn}
-use Rattle.tally.proofs.Runs.{bits-mono}
-use Rattle.sample_words.specs.Words.{NamesOne}
-use Rattle.sample_words.proofs.Naming.{one-more}
+use Rattle.bits_count.proofs.Runs.{bits-mono}
+use Rattle.check_sample.specs.Words.{NamesOne}
+use Rattle.check_sample.proofs.Naming.{one-more}
 use Rattle.piece_samples.specs.Pieces.{PieceSampled}
 
 -- sample number s, of a one among n bits, which i bits and k ones come before

@@ -6,10 +6,10 @@ ghost use Rattle.meaning.specs.Strings.{ones};
 ghost use Rattle.meaning.specs.Bytes.{bitsFrom};
 ghost use Rattle.theory.specs.Layout.{samplePlace};
 ghost use Rattle.theory.specs.Stages.{blocksOfSamples};
-ghost use Rattle.parts.specs.Says.{Says};
-ghost use Rattle.word_table.specs.Table.{CountsBefore};
+ghost use Rattle.image_string.specs.Says.{Says};
+ghost use Rattle.check_sample_table.specs.Table.{CountsBefore};
 ghost use Rattle.piece_samples.specs.Pieces.{PieceSampled};
-use sample_words::sample_right;
+use check_sample::sample_right;
 
 // Where the sample behind the one at byte p stands: the next word, over the sums of a block if those come first.
 fn next_sample(p: usize) -> usize

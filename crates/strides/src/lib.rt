@@ -1,11 +1,11 @@
 // Two strings in step, of many bytes: eight at a time.
 ghost use Prim.Native.Nat.{_+_, _/_, _≤_};
 ghost use lib.ListN.{length};
-ghost use Rattle.parts.specs.Says.{Says};
+ghost use Rattle.image_string.specs.Says.{Says};
 ghost use Rattle.byte_steps.specs.Steps.{StepAt};
+use bits_count::ones_without;
 use byte_steps::bytes_in_step;
-use tally::ones_without;
-use word_steps::word_in_step;
+use check_runs_words::word_in_step;
 
 // Of n bits of R1 from byte `at1` on, which `ones1` ones come before, and n of R0 from `at0` on, which `ones0` come before: is R1 in step with R0 at each of them? Eight bytes at a time.
 pub fn words_in_step(b: &[u8], at1: usize, at0: usize, n: usize, ones1: usize, ones0: usize) -> bool

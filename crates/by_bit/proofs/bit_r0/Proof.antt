@@ -1,7 +1,7 @@
 -- `by_bit::bit_r0` meets its contract.
 use native.Mathlib.Omega.{arith}
-use Rattle.runs.proofs.Own.{bit0}
-use Rattle.ranks.proofs.Strings.{ready0}
+use Rattle.nav_sibling_range.proofs.Own.{bit0}
+use Rattle.nav_strings.proofs.Strings.{ready0}
 use borrow.Author.Needs.{needs}
 use Rattle.by_bit.proofs.bit_r0.Statement.{statement}
 use Rattle.by_bit.proofs.bit_r0.Tie as tie

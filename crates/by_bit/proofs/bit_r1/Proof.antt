@@ -1,7 +1,7 @@
 -- `by_bit::bit_r1` meets its contract.
 use native.Mathlib.Omega.{arith}
-use Rattle.runs.proofs.Own.{bit1}
-use Rattle.ranks.proofs.Strings.{ready1}
+use Rattle.nav_sibling_range.proofs.Own.{bit1}
+use Rattle.nav_strings.proofs.Strings.{ready1}
 use borrow.Author.Needs.{needs}
 use Rattle.by_bit.proofs.bit_r1.Statement.{statement}
 use Rattle.by_bit.proofs.bit_r1.Tie as tie

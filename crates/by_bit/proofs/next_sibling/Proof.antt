@@ -1,6 +1,6 @@
 -- `by_bit::next_sibling` meets its contract.
 use native.Mathlib.Omega.{arith}
-use Rattle.runs.proofs.Own.{strings}
+use Rattle.nav_sibling_range.proofs.Own.{strings}
 use Rattle.by_bit.proofs.Bits.{next-none, next-some}
 use borrow.Author.Needs.{needs}
 use Rattle.by_bit.proofs.next_sibling.Statement.{statement}

@@ -6,7 +6,7 @@ use Rattle.meaning.specs.Strings.{ones}
 use Rattle.meaning.specs.Bytes.{bitsFrom}
 use Rattle.bit.proofs.Values.{value-le}
 use Rattle.byte_steps.specs.Steps.{StepAt}
-use Rattle.tally.proofs.Runs.{bits-ones-le, bits-next}
+use Rattle.bits_count.proofs.Runs.{bits-ones-le, bits-next}
 use Rattle.byte_steps.proofs.Stepping.{step-none, step-bit}
 use Rattle.byte_steps.proofs.bits_in_step.Statement.{statement}
 use Rattle.byte_steps.proofs.bits_in_step.Tie as tie

@@ -2,7 +2,7 @@
 use borrow.Author.Needs.{needs}
 use Prim.Native.Nat.{_*_}
 use native.Mathlib.Omega.{arith}
-use Rattle.tally.proofs.Runs.{bits-ones-le}
+use Rattle.bits_count.proofs.Runs.{bits-ones-le}
 use Rattle.byte_steps.proofs.Stepping.{step-over}
 use Rattle.byte_steps.proofs.byte_in_step.Statement.{statement}
 use Rattle.byte_steps.proofs.byte_in_step.Tie as tie

@@ -6,8 +6,8 @@ use borrow.Author.Needs.{needs}
 use Rattle.meaning.specs.Strings.{ones}
 use Rattle.meaning.specs.Bytes.{bitsFrom}
 use Rattle.byte_steps.specs.Steps.{StepAt}
-use Rattle.tally.proofs.Runs.{bits-ones-le, whole-byte-run, ones-after}
-use Rattle.parts.proofs.Saying.{says-held, says-missed, says-same}
+use Rattle.bits_count.proofs.Runs.{bits-ones-le, whole-byte-run, ones-after}
+use Rattle.image_string.proofs.Saying.{says-held, says-missed, says-same}
 use Rattle.byte_steps.proofs.Stepping.{step-none, step-join, step-part}
 use Rattle.byte_steps.proofs.bytes_in_step.Statement.{statement}
 use Rattle.byte_steps.proofs.bytes_in_step.Tie as tie

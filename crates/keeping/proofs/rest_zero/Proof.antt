@@ -2,9 +2,9 @@
 use Prim.Native.Nat.{_+_, _/_}
 use native.Mathlib.Omega.{arith}
 use borrow.Author.Needs.{needs}
-use Rattle.parts.specs.Parts.{ZeroBytes, Unused}
-use Rattle.parts.proofs.Saying.{says-same}
-use Rattle.parts.proofs.Blanks.{blank-bits, blank-bytes, rest-shifted, rest-blank, blank-rest}
+use Rattle.image_string.specs.Parts.{ZeroBytes, Unused}
+use Rattle.image_string.proofs.Saying.{says-same}
+use Rattle.image_string.proofs.Blanks.{blank-bits, blank-bytes, rest-shifted, rest-blank, blank-rest}
 use Rattle.keeping.proofs.rest_zero.Statement.{statement}
 use Rattle.keeping.proofs.rest_zero.Tie as tie
 

@@ -4,9 +4,9 @@ use Prim.Native.Nat.{ℕ, _+_, _-_, _*_, _≤_, _<_}
 use native.Mathlib.Omega.{arith}
 use borrow.Author.Count.{below-more}
 use Rattle.theory.specs.Layout.{samplePlace, wordAt}
-use Rattle.tally.proofs.Runs.{bits-ones-le}
-use Rattle.parts.proofs.Saying.{says-held, says-missed}
-use Rattle.sample_words.specs.Words.{NamesOne}
+use Rattle.bits_count.proofs.Runs.{bits-ones-le}
+use Rattle.image_string.proofs.Saying.{says-held, says-missed}
+use Rattle.check_sample.specs.Words.{NamesOne}
 use Rattle.piece_samples.proofs.Numbering.{NumberSampled, number-named, piece-named, none-before, numbers-piece}
 use Rattle.piece_samples.proofs.each_sampled.Statement.{statement}
 use Rattle.piece_samples.proofs.each_sampled.Tie as tie

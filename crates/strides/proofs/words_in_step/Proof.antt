@@ -5,10 +5,10 @@ use native.Mathlib.Omega.{arith}
 use Rattle.meaning.specs.Strings.{ones}
 use Rattle.meaning.specs.Bytes.{bitsFrom}
 use Rattle.byte_steps.specs.Steps.{StepAt}
-use Rattle.tally.proofs.Runs.{bits-ones-le, ones-after}
-use Rattle.word_steps.proofs.Stepping.{word-apart, word-few}
+use Rattle.bits_count.proofs.Runs.{bits-ones-le, ones-after}
+use Rattle.check_runs_words.proofs.Stepping.{word-apart, word-few}
 use Rattle.strides.proofs.Stepping.{step-with, step-left}
-use Rattle.parts.proofs.Saying.{says-held, says-missed, says-same}
+use Rattle.image_string.proofs.Saying.{says-held, says-missed, says-same}
 use Rattle.byte_steps.proofs.Stepping.{step-none, step-join, step-part}
 use Rattle.strides.proofs.words_in_step.Statement.{statement}
 use Rattle.strides.proofs.words_in_step.Tie as tie

@@ -1,0 +1,67 @@
+-- `ask_answers::answer_at` meets its contract.
+use mathlib.Core.Path.{ap, _∙_}
+use native.Mathlib.Omega.{arith}
+use Rattle.meaning.specs.Questions.{numberOf}
+use Rattle.ask_allowed.specs.Asked.{questionAt}
+use Rattle.ask_allowed.proofs.Allowing.{fine}
+use Rattle.ask_answers.proofs.Answers.{answer-is}
+use borrow.Author.Needs.{needs}
+use Rattle.ask_answers.proofs.answer_at.Statement.{statement}
+use Rattle.ask_answers.proofs.answer_at.Tie as tie
+
+mul-signed-at : tie.Need-mul-signed-at
+mul-signed-at c = search needs
+
+signed-at-requires : tie.Need-signed-at-requires
+signed-at-requires c κs = search needs
+
+number-requires : tie.Need-number-requires
+number-requires c κs = search needs
+
+mul-signed-at-2 : tie.Need-mul-signed-at-2
+mul-signed-at-2 c = search needs
+
+add-signed-at : tie.Need-add-signed-at
+add-signed-at c = search needs
+
+signed-at-requires-2 : tie.Need-signed-at-requires-2
+signed-at-requires-2 c κs = search needs
+
+number-requires-2 : tie.Need-number-requires-2
+number-requires-2 c κs = search needs
+
+cast-reply : tie.Need-cast-reply
+cast-reply c = search needs
+
+mul-signed-at-3 : tie.Need-mul-signed-at-3
+mul-signed-at-3 c = search needs
+
+add-signed-at-2 : tie.Need-add-signed-at-2
+add-signed-at-2 c = search needs
+
+signed-at-requires-3 : tie.Need-signed-at-requires-3
+signed-at-requires-3 c κs = search needs
+
+reply-requires : tie.Need-reply-requires
+reply-requires c κs = let f = fine _ (questionAt (c .before .before .before .before .before .before .args .asked .now) (c .before .before .before .before .before .before .args .i)) (c .before .before .before .before .before .before .pre .1 .1) in let k = c .before .before .before .number .ensures ∙ ap numberOf (c .before .before .before .before .signed-at .ensures) in let x = c .before .number2 .ensures ∙ ap numberOf (c .before .before .signed-at2 .ensures) in (c .before .before .before .before .before .before .pre .0, (omega (arith, f .least, k), (omega (arith, f .most, k), (omega (arith, f .some, x), omega (arith, f .within, x)))))
+
+returns : tie.Need-returns
+returns c = c .reply .ensures ∙ answer-is _ (questionAt (c .before .before .before .before .before .before .before .args .asked .now) (c .before .before .before .before .before .before .before .args .i)) _ _ _ (c .before .before .before .before .number .ensures ∙ ap numberOf (c .before .before .before .before .before .signed-at .ensures)) (c .before .before .number2 .ensures ∙ ap numberOf (c .before .before .before .signed-at2 .ensures)) (c .before .signed-at3 .ensures)
+
+pub answer-at-spec : {M : Type 1} → statement M
+answer-at-spec =
+    tie.close
+    (tie.spec
+    mul-signed-at
+    signed-at-requires
+    number-requires
+    mul-signed-at-2
+    add-signed-at
+    signed-at-requires-2
+    number-requires-2
+    cast-reply
+    mul-signed-at-3
+    add-signed-at-2
+    signed-at-requires-3
+    reply-requires
+    returns)

@@ -1,0 +1,44 @@
+// The ten kinds of questions, answered from an image that the check found sound.
+ghost use mathlib.Core.Path.{_≡_};
+ghost use Prim.Native.Nat.{_≤_};
+ghost use lib.IntN.{pos};
+ghost use Rattle.meaning.specs.Image.{parentsIn};
+ghost use Rattle.meaning.specs.Questions.{answerKind, kindOf};
+ghost use Rattle.image_found.specs.declared.Checked.the-variants.{Sound};
+ghost use Rattle.image_found.specs.Checked.{checked};
+ghost use Rattle.ask_argument.specs.Values.{valueOf};
+use ask_argument::Signed;
+use by_bit::is_leaf;
+use by_bit::next_sibling;
+use by_bit::previous_sibling;
+use image_found::Image;
+use nav_children::child_number;
+use nav_children::degree_of;
+use nav_children::first_child;
+use nav_children::last_child;
+use nav_children::parent_of;
+use nav_siblings::child_rank;
+use nav_siblings::sibling_at;
+
+// The answer to one question, kinds 1 to 10.
+pub fn reply(b: &[u8], image: Image, kind: u32, x: usize, z: Signed) -> u32
+    requires { ⌜ checked (now b) ≡ Sound image ⌝ }
+    requires { ⌜ 1 ≤ kind ⌝ }
+    requires { ⌜ kind ≤ 10 ⌝ }
+    requires { ⌜ 1 ≤ x ⌝ }
+    requires { ⌜ x ≤ image .nodes ⌝ }
+    ensures { λ r. ⌜ r ≡ answerKind (parentsIn (now (b .entry))) (kindOf (pos kind)) x (valueOf z) ⌝ }
+{
+    match kind {
+        1 => parent_of(b, image, x),
+        2 => first_child(b, image, x),
+        3 => last_child(b, image, x),
+        4 => next_sibling(b, image, x),
+        5 => previous_sibling(b, image, x),
+        6 => degree_of(b, image, x),
+        7 => child_rank(b, image, x),
+        8 => child_number(b, image, x, z),
+        9 => is_leaf(b, image, x),
+        _ => sibling_at(b, image, x, z),
+    }
+}

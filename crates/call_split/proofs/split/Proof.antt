@@ -1,0 +1,130 @@
+-- `call_split::split` meets its contract.
+use mathlib.Core.Path.{refl, sym, _∙_}
+use native.Mathlib.Omega.{arith}
+use borrow.Author.Needs.{needs}
+use lib.ListN.{length}
+use Rattle.pack_scan.proofs.Telling.{answered}
+use Rattle.table_sizes.specs.ToSplit.{Sized}
+use Rattle.table_sizes.proofs.ToSplit.{told-right}
+use Rattle.call_split.proofs.Splitting.{split-wrong, split-refused, split-firsts, split-sizes, split-done}
+use Rattle.call_split.proofs.split.Statement.{statement}
+use Rattle.call_split.proofs.split.Tie as tie
+
+-- the sizes of what is lent are right
+sized : (c : tie.Else1) → let a = c .before .before .before .before .before .args in Sized (length (a .bytes .now)) (a .bits) (a .trees)
+sized c = let a = c .before .before .before .before .before .args in told-right (length (a .bytes .now)) (a .bits) (a .trees) (c .before .wrong-to-split .ensures) (c .if1 .left)
+
+wrong-to-split-requires : tie.Need-wrong-to-split-requires
+wrong-to-split-requires c κs = search needs
+
+refuse-requires : tie.Need-refuse-requires
+refuse-requires c κs = search needs
+
+returns : tie.Need-returns
+returns c = answered (c .refuse .ensures) (split-wrong _ _ _ _ _ (c .before .before .wrong-to-split .ensures) (c .before .if1 .taken))
+
+slice-aggregate-trees-held : tie.Need-slice-aggregate-trees-held
+slice-aggregate-trees-held c = search needs
+
+slice-aggregate-trees-held-2 : tie.Need-slice-aggregate-trees-held-2
+slice-aggregate-trees-held-2 c = search needs
+
+trees-held-requires : tie.Need-trees-held-requires
+trees-held-requires c κs = let z = sized (c .before .before) in (omega (arith, z .exact), (z .short, z .few))
+
+enum-known-held : tie.Need-enum-known-held
+enum-known-held c = search needs
+
+refuse-requires-2 : tie.Need-refuse-requires-2
+refuse-requires-2 c κs = search needs
+
+enum-told : tie.Need-enum-told
+enum-told c = search needs
+
+refuse-requires-3 : tie.Need-refuse-requires-3
+refuse-requires-3 c κs = search needs
+
+returns-2 : tie.Need-returns-2
+returns-2 c =
+    let p = c .before .before in
+    answered (c .refuse3 .ensures) (split-firsts _ _ _ _ _ (sized (p .before .before .before .before .before .before .before)) (sym (p .enum-told .given .1) ∙ p .before .before .before .before .trees-held .ensures .0) (c .before .if2 .taken))
+
+refuse-requires-4 : tie.Need-refuse-requires-4
+refuse-requires-4 c κs = search needs
+
+returns-3 : tie.Need-returns-3
+returns-3 c =
+    let p = c .before .before .before in
+    let s = p .before .before .before .before .before .before .before in
+    let a = s .before .before .before .before .before .args in
+    answered (c .refuse4 .ensures)
+    (split-sizes (a .bytes .now) (a .bits) (a .trees) (a .firsts .now) (a .counts .now) (sized s) (sym (p .enum-told .given .1) ∙ p .before .before .before .before .trees-held .ensures .0)
+    (omega (arith, c .before .before .if2 .left, c .before .if3 .taken)))
+
+slice-aggregate-hand-over : tie.Need-slice-aggregate-hand-over
+slice-aggregate-hand-over c = search needs
+
+hand-over-requires : tie.Need-hand-over-requires
+hand-over-requires c κs = let few = sized (c .before .before .before .before .before .before .before .before .before .before .before) .few in search needs
+
+slice-aggregate-hand-over-2 : tie.Need-slice-aggregate-hand-over-2
+slice-aggregate-hand-over-2 c = search needs
+
+hand-over-requires-2 : tie.Need-hand-over-requires-2
+hand-over-requires-2 c κs = let few = sized (c .before .before .before .before .before .before .before .before .before .before .before .before .before .before .before .before) .few in search needs
+
+cast-found : tie.Need-cast-found
+cast-found c = let z = sized (c .before .before .before .before .before .before .before .before .before .before .before .before .before .before .before .before .before .before .before) in omega arith
+
+cast-done : tie.Need-cast-done
+cast-done c = let z = sized (c .before .before .before .before .before .before .before .before .before .before .before .before .before .before .before .before .before .before .before) in omega arith
+
+done-requires : tie.Need-done-requires
+done-requires c κs = search needs
+
+returns-4 : tie.Need-returns-4
+returns-4 c =
+    let p = c .before .before in
+    answered (c .refuse2 .ensures) (split-refused _ _ _ _ _ (sized (p .before .before .before .before .before .before .before)) (sym (p .held .given .1) ∙ p .before .before .before .before .trees-held .ensures .0))
+
+same-length : tie.Need-same-length
+same-length c = search needs
+
+same-length-2 : tie.Need-same-length-2
+same-length-2 c = search needs
+
+returns-5 : tie.Need-returns-5
+returns-5 c =
+    let t = c .before .before .before .before .before .before .before .before .before .before .before .before .before in
+    let h = t .before .before .before .before .trees-held .ensures in
+    let all = t .enum-told .given .1 in
+    split-done _ _ _ _ _ (sized (t .before .before .before .before .before .before .before)) (sym all ∙ h .0) _ (c .done .ensures) refl (h .1 .0 all) (h .1 .1 all) (c .before .before .before .before .before .before .before .before .hand-over .ensures) (c .before .before .before .hand-over2 .ensures) (c .before .before .before .before .before .before .before .before .before .before .before .before .if2 .left) (c .before .before .before .before .before .before .before .before .before .before .before .if3 .left)
+
+pub split-spec : {M : Type 1} → statement M
+split-spec =
+    tie.close
+    (tie.spec
+    wrong-to-split-requires
+    refuse-requires
+    returns
+    slice-aggregate-trees-held
+    slice-aggregate-trees-held-2
+    trees-held-requires
+    enum-known-held
+    refuse-requires-2
+    enum-told
+    refuse-requires-3
+    returns-2
+    refuse-requires-4
+    returns-3
+    slice-aggregate-hand-over
+    hand-over-requires
+    slice-aggregate-hand-over-2
+    hand-over-requires-2
+    cast-found
+    cast-done
+    done-requires
+    returns-4
+    same-length
+    same-length-2
+    returns-5)

@@ -1,0 +1,120 @@
+// What the calls of a script are made on: a tree, and bytes in hand (a string, a pack or an image).
+use crate::number;
+use crate::put_bytes;
+use crate::room;
+use crate::size;
+use std::num::wrapping_add_u32;
+
+// How much greater the parent of a node is than that of the node before it, in the mixed tree: less than 1 on the average, so that the tree is not deep.
+const STEPS: [u32; 8] = [0, 0, 0, 0, 1, 0, 2, 3];
+
+fn low(x: usize) -> u32 {
+    (x % 4294967296) as u32
+}
+
+fn least(x: u32, most: u32) -> u32 {
+    if x < most { x } else { most }
+}
+
+// The parent of the node that has i nodes before it, in a tree of so many branches side by side below the root.
+// Of the nodes with `both` or more before them there is one to a level: only the last branch goes on.
+fn branched(i: u32, branches: u32, both: u32) -> u32 {
+    if both <= i {
+        return i;
+    }
+    if branches < i {
+        return wrapping_add_u32(i - branches, 1);
+    }
+    least(i, 1)
+}
+
+// The same in the mixed tree, where p is the parent of the node before: first a path, then steps by chance, one node with some thousand children,
+// and a leap over nodes that get none.
+fn mixed(i: u32, p: u32, seed: usize) -> u32 {
+    if i <= 20 {
+        return i;
+    }
+    if i == 4601 {
+        return 3950;
+    }
+    if 3500 < i {
+        if i <= 4500 {
+            return p;
+        }
+    }
+    least(wrapping_add_u32(p, STEPS[seed % 8]), i)
+}
+
+// The same by the first letter of the line that asks for the tree:
+// parents PARENT..         these parents
+// grow HANDLE              a path of so many nodes, whose last has all later nodes as children: a star where there is one
+// branches COUNT BOTH      branches side by side
+// mixed                    the mixed tree
+fn parent(letter: u8, numbers: &[u32], i: usize, p: u32, seed: usize) -> u32 {
+    match letter {
+        b'p' => number(numbers, i),
+        b'g' => least(low(i), number(numbers, 0)),
+        b'b' => branched(low(i), number(numbers, 0), number(numbers, 1)),
+        _ => mixed(low(i), p, seed),
+    }
+}
+
+fn stirred(seed: usize) -> usize {
+    (seed % 65537 * 75 + 74) % 65537
+}
+
+// Fills the whole list: its first entries are the smaller trees of the same kind.
+pub fn plant(letter: u8, numbers: &[u32], parents: &mut [u32]) {
+    let mut p: u32 = 0;
+    let mut seed: usize = 1;
+    for i in 0..parents.len() {
+        p = parent(letter, numbers, i, p, seed);
+        parents[i] = p;
+        seed = stirred(seed);
+    }
+}
+
+fn fill(bytes: &mut [u8], from: usize, x: u8) {
+    for i in from..bytes.len() {
+        bytes[i] = x;
+    }
+}
+
+fn hold(numbers: &[u32], bytes: &mut [u8]) {
+    fill(bytes, 0, 9);
+    put_bytes(numbers, bytes);
+}
+
+fn clear(numbers: &[u32], bytes: &mut [u8]) {
+    fill(bytes, 0, 9);
+    fill(bytes, size(numbers, 1), 0);
+}
+
+fn flip(numbers: &[u32], bytes: &mut [u8]) {
+    let at = size(numbers, 0);
+    if at < bytes.len() {
+        bytes[at] = bytes[at] ^ (number(numbers, 1) % 256) as u8;
+    }
+}
+
+fn reseal(numbers: &[u32], bytes: &mut [u8]) {
+    let most = bytes.len() / 512;
+    let n = room(numbers, 0, most);
+    if n <= 53 {
+        seal_sums::seal_blocks(bytes, n);
+    }
+}
+
+// hold BYTE..              these bytes, and 9s behind them
+// flip PLACE BITS          changes bits of a byte
+// reseal BLOCKS            makes the sums of so many blocks right
+// Before a string or an image is made there are 9s as far as its room goes, and zeros behind.
+pub fn alter(letter: u8, numbers: &[u32], bytes: &mut [u8]) {
+    match letter {
+        b'h' => hold(numbers, bytes),
+        b'f' => flip(numbers, bytes),
+        b'r' => reseal(numbers, bytes),
+        b'e' | b'i' => clear(numbers, bytes),
+        _ => {}
+    }
+}

@@ -1,0 +1,70 @@
+// Of one string of an image: the ones it has, and its end.
+ghost use mathlib.Core.Path.{_≡_};
+ghost use Prim.Native.Nat.{_+_, _*_, _≤_};
+ghost use lib.ListN.{length};
+ghost use Rattle.meaning.specs.Strings.{ones};
+ghost use Rattle.meaning.specs.Image.{stringBlocks, stringIn};
+ghost use Rattle.theory.specs.Stages.{Ended, Kept};
+ghost use Rattle.image_string.specs.Says.{Says};
+ghost use Rattle.image_string.specs.Parts.{Counted};
+ghost use Rattle.check_counts.specs.Parts.{StringRight};
+use bits_count::ones_from;
+use image_string::string_bit;
+use image_words::word;
+use keeping::rest_zero;
+
+// Are there zeros after the last of the n bits of a string whose blocks have the number of earlier ones?
+fn string_kept(b: &[u8], first: usize, n: usize) -> bool
+    requires { ⌜ 1 ≤ n ⌝ }
+    requires { ⌜ n ≤ 65536 ⌝ }
+    requires { ⌜ first ≤ 53 ⌝ }
+    requires { ⌜ 512 * (first + stringBlocks n) ≤ length (now b) ⌝ }
+    requires { ⌜ Counted (now b) first n ⌝ }
+    ensures { λ r. ⌜ Says r (Kept (now (b .entry)) first (stringIn (now (b .entry)) first 0 n)) ⌝ }
+{
+    let last = (n - 1) / 4000;
+    rest_zero(b, 512 * (first + last) + 4, n - 4000 * last)
+}
+
+// How many of the n bits of the string whose blocks begin at block `first` are one: what its last block counts before it, and the ones in it.
+fn ones_in_string(b: &[u8], first: usize, n: usize) -> u32
+    requires { ⌜ 1 ≤ n ⌝ }
+    requires { ⌜ n ≤ 65536 ⌝ }
+    requires { ⌜ first ≤ 53 ⌝ }
+    requires { ⌜ 512 * (first + stringBlocks n) ≤ length (now b) ⌝ }
+    requires { ⌜ Counted (now b) first n ⌝ }
+    ensures { λ r. ⌜ r ≡ ones (stringIn (now (b .entry)) first 0 n) ⌝ }
+{
+    let last = (n - 1) / 4000;
+    word(b, 512 * (first + last)) + ones_from(b, 512 * (first + last) + 4, n - 4000 * last)
+}
+
+// Has the string of n bits m ones, the last bit among them?
+fn string_ended(b: &[u8], first: usize, n: usize, m: u32) -> bool
+    requires { ⌜ 1 ≤ n ⌝ }
+    requires { ⌜ n ≤ 65536 ⌝ }
+    requires { ⌜ first ≤ 53 ⌝ }
+    requires { ⌜ 512 * (first + stringBlocks n) ≤ length (now b) ⌝ }
+    requires { ⌜ Counted (now b) first n ⌝ }
+    ensures { λ r. ⌜ Says r (Ended m (stringIn (now (b .entry)) first 0 n)) ⌝ }
+{
+    if ones_in_string(b, first, n) != m {
+        return false;
+    }
+    string_bit(b, first, n - 1) == 1
+}
+
+// Of a string of n bits whose blocks count right: does it end in zeros, and has it m ones, the last bit among them?
+pub fn string_right(b: &[u8], first: usize, n: usize, m: u32) -> bool
+    requires { ⌜ 1 ≤ n ⌝ }
+    requires { ⌜ n ≤ 65536 ⌝ }
+    requires { ⌜ first ≤ 53 ⌝ }
+    requires { ⌜ 512 * (first + stringBlocks n) ≤ length (now b) ⌝ }
+    requires { ⌜ Counted (now b) first n ⌝ }
+    ensures { λ r. ⌜ Says r (StringRight (now (b .entry)) first n m) ⌝ }
+{
+    if !string_kept(b, first, n) {
+        return false;
+    }
+    string_ended(b, first, n, m)
+}

@@ -1,0 +1,37 @@
+-- The words of the header, the reserved ones zero byte by byte.
+use mathlib.Core.Path.{_≡_, sym, ap, ap₂, _∙_}
+use mathlib.Core.List.{List}
+use Prim.Native.Nat.{ℕ, _+_, _*_, _/_, _%_, _≤_, _<_}
+use native.Mathlib.Omega.{arith}
+use lib.ListN.{length, getD}
+use Rattle.theory.specs.Layout.{wordAt}
+use Rattle.theory.specs.Stages.{Header, nodesOf, marksOf, blocksNeeded}
+use Rattle.image_string.specs.Parts.{ZeroBytes}
+use Rattle.image_string.proofs.Zeros.{word-bytes, zero-word}
+
+-- the reserved words of the header are zero exactly if their bytes are
+pub zero-words : (bytes : List ℕ) → ZeroBytes bytes 16 504 → (w : ℕ) → 4 ≤ w → w < 126 → wordAt bytes (4 * w) ≡ 0
+zero-words bytes z w h g = zero-word bytes 16 504 (4 * w) z (omega arith) (omega arith)
+
+pub words-zero : (bytes : List ℕ) → ((w : ℕ) → 4 ≤ w → w < 126 → wordAt bytes (4 * w) ≡ 0) → ZeroBytes bytes 16 504
+words-zero bytes z i h g =
+    ap (λ j. getD bytes j 0) (let e : i ≡ 4 * (i / 4) + i % 4 = omega arith in e)
+    ∙ word-bytes bytes (4 * (i / 4)) (i % 4) (z (i / 4) (omega arith) (omega arith)) (omega arith)
+
+-- ---- the header
+
+module _ (bytes : List ℕ) (blocks n m : ℕ) (size : length bytes ≡ 512 * blocks) (nodes : n ≡ nodesOf bytes) (marks : m ≡ marksOf bytes) where
+  pub header-all : wordAt bytes 0 ≡ 1 → 1 ≤ n → n ≤ 65535 → 1 ≤ m → m ≤ n → wordAt bytes 12 ≡ blocks → blocksNeeded n m ≡ blocks → ZeroBytes bytes 16 504 → Header bytes
+  header-all version some most marksSome marksMost count needed z = record {
+    version = version;
+    some = omega arith;
+    most = omega arith;
+    marksSome = omega arith;
+    marksMost = omega arith;
+    blocks = omega arith;
+    needed = let e : length bytes / 512 ≡ blocks = omega arith in e ∙ sym needed ∙ ap₂ (λ a b. blocksNeeded a b) nodes marks;
+    reserved = zero-words bytes z;
+  }
+
+  pub header-needs : Header bytes → blocksNeeded n m ≡ blocks
+  header-needs h = ap₂ (λ a b. blocksNeeded a b) nodes marks ∙ sym (h .needed) ∙ omega arith

@@ -1,0 +1,118 @@
+-- `check_runs::full_block_in_step` meets its contract.
+use borrow.Author.Needs.{needs}
+use mathlib.Core.Path.{_∙_}
+use Prim.Native.Nat.{ℕ, _+_, _*_}
+use native.Mathlib.Omega.{arith}
+use Rattle.image_string.proofs.Ones.{onesTo-le}
+use Rattle.check_runs_samples.specs.Ahead.{Ahead}
+use Rattle.check_runs_samples.proofs.Telling.{told}
+use Rattle.check_runs.specs.Steps.{StepWithin}
+use Rattle.check_runs.proofs.Stepping.{step-behind, step-sampled}
+use Rattle.check_runs.proofs.full_block_in_step.Statement.{statement}
+use Rattle.check_runs.proofs.full_block_in_step.Tie as tie
+
+add-word : tie.Need-add-word
+add-word c = search needs
+
+add-word-2 : tie.Need-add-word-2
+add-word-2 c = search needs
+
+mul-word : tie.Need-mul-word
+mul-word c = search needs
+
+word-requires : tie.Need-word-requires
+word-requires c κs = search needs
+
+add-word-3 : tie.Need-add-word-3
+add-word-3 c = search needs
+
+mul-word-2 : tie.Need-mul-word-2
+mul-word-2 c = search needs
+
+word-requires-2 : tie.Need-word-requires-2
+word-requires-2 c κs = search needs
+
+returns : tie.Need-returns
+returns c =
+    let a = c .before .before .before .before .args in
+    step-behind (a .b .now) (a .zeros) (4000 * a .j) (4000 * a .j + 4000) (omega arith)
+
+add-word-4 : tie.Need-add-word-4
+add-word-4 c = search needs
+
+mul-word-3 : tie.Need-mul-word-3
+mul-word-3 c = search needs
+
+word-requires-3 : tie.Need-word-requires-3
+word-requires-3 c κs = search needs
+
+cast-before : tie.Need-cast-before
+cast-before c = search needs
+
+cast-samples-ahead : tie.Need-cast-samples-ahead
+cast-samples-ahead c = search needs
+
+samples-ahead-requires : tie.Need-samples-ahead-requires
+samples-ahead-requires c κs =
+    let a = c .before .before .before .before .before .args in
+    let most = onesTo-le (a .b .now) 1 (4000 * a .j + 4000) in
+    (omega arith, (omega arith, (omega arith, (omega arith, (omega arith, (omega arith, (omega arith, omega arith)))))))
+
+-- samples that are ahead
+module _ (c : tie.After-word3) where
+  abbrev start : tie.Start
+  start = c .before .before .before .before .before
+
+  by-samples : (by : ℕ) → Ahead (start .args .b .now) (start .args .samples1) (start .args .samples0) (c .word3 .result) (c .before .before .before .word .result) (start .args .m) by
+      → StepWithin (start .args .b .now) (start .args .zeros) (4000 * start .args .j) (4000 * start .args .j + 4000)
+  by-samples by =
+      let a = start .args in
+      let p = start .pre .1 .1 .1 .1 .1 .1 .1 .1 .1 in
+      step-sampled (a .b .now) (a .zeros) (a .samples1) (a .samples0) (a .m) (c .word3 .result) (c .before .before .before .word .result) by (4000 * a .j) (4000 * a .j + 4000)
+      (p .1 .1 .1 .0) (p .1 .1 .1 .1) (c .word3 .ensures ∙ p .0) (c .before .before .before .word .ensures ∙ p .1 .0)
+
+returns-2 : tie.Need-returns-2
+returns-2 c = by-samples (c .before .before) 4 (told (c .before .samples-ahead .result) _ (c .before .samples-ahead .ensures) (c .if2 .taken))
+
+cast-samples-ahead-2 : tie.Need-cast-samples-ahead-2
+cast-samples-ahead-2 c = search needs
+
+samples-ahead-requires-2 : tie.Need-samples-ahead-requires-2
+samples-ahead-requires-2 c κs =
+    let a = c .before .before .before .before .before .before .before .args in
+    let most = onesTo-le (a .b .now) 1 (4000 * a .j + 4000) in
+    (omega arith, (omega arith, (omega arith, (omega arith, (omega arith, (omega arith, (omega arith, omega arith)))))))
+
+returns-3 : tie.Need-returns-3
+returns-3 c = by-samples (c .before .before .before .before) 1 (told (c .before .samples-ahead2 .result) _ (c .before .samples-ahead2 .ensures) (c .if3 .taken))
+
+block-in-step-requires : tie.Need-block-in-step-requires
+block-in-step-requires c κs = search needs
+
+returns-4 : tie.Need-returns-4
+returns-4 c = search needs
+
+pub full-block-in-step-spec : {M : Type 1} → statement M
+full-block-in-step-spec =
+    tie.close
+    (tie.spec
+    add-word
+    add-word-2
+    mul-word
+    word-requires
+    add-word-3
+    mul-word-2
+    word-requires-2
+    returns
+    add-word-4
+    mul-word-3
+    word-requires-3
+    cast-before
+    cast-samples-ahead
+    samples-ahead-requires
+    returns-2
+    cast-samples-ahead-2
+    samples-ahead-requires-2
+    returns-3
+    block-in-step-requires
+    returns-4)

@@ -1,0 +1,111 @@
+// Are the runs of the two strings of an image in step?
+ghost use mathlib.Core.Path.{_≡_};
+ghost use Prim.Native.Nat.{_+_, _*_, _≤_};
+ghost use lib.ListN.{length};
+ghost use Rattle.meaning.specs.Image.{stringIn};
+ghost use Rattle.theory.specs.Layout.{wordAt};
+ghost use Rattle.theory.specs.Stages.{InStep, zerosFrom, samplesFrom, blocksOfSamples};
+ghost use Rattle.image_string.specs.Says.{Says};
+ghost use Rattle.image_string.specs.Parts.{Counted, onesTo};
+ghost use Rattle.check_samples.specs.Samples.{Placed};
+ghost use Rattle.check_runs.specs.Steps.{StepWithin};
+use check_runs_samples::samples_ahead;
+use image_string::string_bit;
+use image_words::word;
+use strides::words_in_step;
+
+// Is R1 in step with R0 in the first n bits of their blocks number j?
+fn block_in_step(b: &[u8], zeros: usize, j: usize, n: usize) -> bool
+    requires { ⌜ n ≤ 4000 ⌝ }
+    requires { ⌜ j ≤ 16 ⌝ }
+    requires { ⌜ zeros ≤ 53 ⌝ }
+    requires { ⌜ 512 * (1 + j + 1) ≤ length (now b) ⌝ }
+    requires { ⌜ 512 * (zeros + j + 1) ≤ length (now b) ⌝ }
+    requires { ⌜ wordAt (now b) (512 * (1 + j)) ≡ onesTo (now b) 1 (4000 * j) ⌝ }
+    requires { ⌜ wordAt (now b) (512 * (zeros + j)) ≡ onesTo (now b) zeros (4000 * j) ⌝ }
+    ensures { λ r. ⌜ Says r (StepWithin (now (b .entry)) zeros (4000 * j) (4000 * j + n)) ⌝ }
+{
+    let at1 = 512 * (1 + j);
+    let at0 = 512 * (zeros + j);
+    words_in_step(
+        b,
+        at1 + 4,
+        at0 + 4,
+        n,
+        word(b, at1) as usize,
+        word(b, at0) as usize,
+    )
+}
+
+// The same of a whole block of R1, behind which another comes; both strings have m ones, and their samples begin at these blocks.
+fn full_block_in_step(
+    b: &[u8],
+    zeros: usize,
+    j: usize,
+    m: usize,
+    samples1: usize,
+    samples0: usize,
+) -> bool
+    requires { ⌜ j ≤ 16 ⌝ }
+    requires { ⌜ zeros ≤ 53 ⌝ }
+    requires { ⌜ m ≤ 65536 ⌝ }
+    requires { ⌜ samples1 ≤ 53 ⌝ }
+    requires { ⌜ samples0 ≤ 53 ⌝ }
+    requires { ⌜ 512 * (1 + j + 2) ≤ length (now b) ⌝ }
+    requires { ⌜ 512 * (zeros + j + 1) ≤ length (now b) ⌝ }
+    requires { ⌜ 512 * (samples1 + blocksOfSamples m) ≤ length (now b) ⌝ }
+    requires { ⌜ 512 * (samples0 + blocksOfSamples m) ≤ length (now b) ⌝ }
+    requires { ⌜ wordAt (now b) (512 * (1 + j)) ≡ onesTo (now b) 1 (4000 * j) ⌝ }
+    requires { ⌜ wordAt (now b) (512 * (1 + j + 1)) ≡ onesTo (now b) 1 (4000 * j + 4000) ⌝ }
+    requires { ⌜ wordAt (now b) (512 * (zeros + j)) ≡ onesTo (now b) zeros (4000 * j) ⌝ }
+    requires { ⌜ Placed (now b) samples1 1 m ⌝ }
+    requires { ⌜ Placed (now b) samples0 zeros m ⌝ }
+    ensures { λ r. ⌜ Says r (StepWithin (now (b .entry)) zeros (4000 * j) (4000 * j + 4000)) ⌝ }
+{
+    let end = word(b, 512 * (1 + j + 1));
+    // then R1 has no more behind the block than R0 before it
+    if end <= word(b, 512 * (zeros + j)) {
+        return true;
+    }
+    let before = word(b, 512 * (1 + j)) as usize;
+    // one in 256 ones is looked at
+    if samples_ahead(b, samples1, samples0, before, end as usize, m, 4) {
+        return true;
+    }
+    // one in 64
+    if samples_ahead(b, samples1, samples0, before, end as usize, m, 1) {
+        return true;
+    }
+    block_in_step(b, zeros, j, 4000)
+}
+
+// Are the runs of the two strings in step? The first bit of R1 is one, and before its last bit R1 never has more ones behind it than R0. Both have m ones, and their samples begin at these blocks.
+pub fn in_step(b: &[u8], zeros: usize, n: usize, m: usize, samples1: usize, samples0: usize) -> bool
+    requires { ⌜ 1 ≤ n ⌝ }
+    requires { ⌜ n ≤ 65535 ⌝ }
+    requires { ⌜ zeros ≡ zerosFrom n ⌝ }
+    requires { ⌜ 512 * samplesFrom n ≤ length (now b) ⌝ }
+    requires { ⌜ Counted (now b) 1 n ⌝ }
+    requires { ⌜ Counted (now b) zeros (n + 1) ⌝ }
+    requires { ⌜ m ≤ 65536 ⌝ }
+    requires { ⌜ samples1 ≤ 53 ⌝ }
+    requires { ⌜ samples0 ≤ 53 ⌝ }
+    requires { ⌜ 512 * (samples1 + blocksOfSamples m) ≤ length (now b) ⌝ }
+    requires { ⌜ 512 * (samples0 + blocksOfSamples m) ≤ length (now b) ⌝ }
+    requires { ⌜ Placed (now b) samples1 1 m ⌝ }
+    requires { ⌜ Placed (now b) samples0 zeros m ⌝ }
+    ensures { λ r. ⌜ Says r (InStep (stringIn (now (b .entry)) 1 0 n) (stringIn (now (b .entry)) zeros 0 (n + 1))) ⌝ }
+{
+    if string_bit(b, 1, 0) == 0 {
+        return false;
+    }
+    let last = (n - 1) / 4000;
+    let mut j: usize = 0;
+    while j < last {
+        if !full_block_in_step(b, zeros, j, m, samples1, samples0) {
+            return false;
+        }
+        j += 1;
+    }
+    block_in_step(b, zeros, last, n - 4000 * last)
+}

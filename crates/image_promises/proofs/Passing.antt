@@ -1,0 +1,58 @@
+-- What the rows of the check of an image come to in a call: a tree's image passes them, other bytes are refused by them, and what code 0 behind them tells.
+use mathlib.Core.Path.{_≡_, refl, sym, ap, _∙_}
+use mathlib.Core.Bool.{Bool, false, not}
+use mathlib.Core.List.{List, _++_}
+use Prim.Native.Nat.{ℕ, _/_, _%_, _≤_}
+use native.Mathlib.Omega.{arith}
+use borrow.Author.Tests.{le-ltb, not-false}
+use lib.Dec.{eqb}
+use lib.ListN.{length}
+use Rattle.meaning.specs.Trees.{Tree, nodes}
+use Rattle.meaning.specs.Blocks.{blocksIn, wrongBlock}
+use Rattle.meaning.specs.Image.{image, isImage}
+use Rattle.meaning.specs.declared.Answer.{Answer}
+use Rattle.meaning.specs.Answers.{Row, cameTo, settle}
+use Rattle.meaning.specs.Calls.{outside, wrongSize, checkRows, checkImage}
+use Rattle.theory.specs.Rows.{NoneHolds}
+use Rattle.theory.proofs.Settled.{or-neither, between, equal}
+use Rattle.theory.proofs.Codes.{neither, Others, none-held}
+use Rattle.theory.proofs.TreeImages.{is-image}
+use Rattle.theorems.proofs.Promises.{image-has-blocks}
+use Rattle.image_found.specs.declared.Checked.{Checked}
+use Rattle.image_found.specs.declared.Checked.the-variants.{Sound, Refused}
+use Rattle.image_found.specs.Checked.{checked, imageIn, answered}
+use Rattle.image_found.proofs.Finding.{comesTo, rows-checked, found-sound}
+use Rattle.image_found.proofs.Calling.{image-answered}
+
+-- w, what else that is lent may have a wrong size, does not hold
+module _ (t : Tree) (h : nodes t ≤ 65535) where
+  tree-sound : Sound (imageIn (image t)) ≡ checked (image t)
+  tree-sound =
+      let x = image t in
+      let b = image-has-blocks t h in
+      found-sound x
+      (or-neither (not (eqb (length x % 512) 0)) (outside 5 53 (length x / 512)) (equal (length x % 512) 0 (omega (arith, b .0))) (between 5 53 (length x / 512) (b .1) (b .2)))
+      (le-ltb (wrongBlock x) (blocksIn x) (omega (arith, b .3)))
+      (is-image x .1 (t, h, refl))
+
+  pub tree-passed : (w : Bool) → w ≡ false → {A : Type 0} (before : A) (rest : List Row) (a : Answer) (after : A)
+      → settle before (checkRows (image t) w ++ rest) a after ≡ settle before rest a after
+  tree-passed w f before rest a after = rows-checked before rest a after (image t) w f ∙ ap (comesTo before rest a after) (sym tree-sound)
+
+module _ (bytes : List ℕ) (refused : checkImage bytes .answer .code ≡ 0 → ⊥) where
+  pub not-passed : (w : Bool) → w ≡ false → {A : Type 0} (before : A) (rest : List Row) (a : Answer) (after : A)
+      → settle before (checkRows bytes w ++ rest) a after ≡ cameTo (checkImage bytes .answer) before
+  not-passed w f before rest a after = rows-checked before rest a after bytes w f ∙ by-found (checked bytes) refl
+    where
+      by-found : (c : Checked) → checked bytes ≡ c → comesTo before rest a after c ≡ cameTo (checkImage bytes .answer) before
+      by-found (Sound i) e = absurd (refused (ap (λ o. o .answer .code) (sym (image-answered bytes)) ∙ ap (λ c. answered c .code) e))
+      by-found (Refused code place) e = ap (λ r. cameTo r before) (ap answered (sym e) ∙ ap (λ o. o .answer) (image-answered bytes))
+
+-- code 0: what else is lent has a right size, some tree gives the bytes, and no row behind the check holds
+pub rows-done : {A : Type 0} (before : A) (a : Answer) (after : A) (bytes : List ℕ) (w : Bool) (rest : List Row) → Others 0 rest
+    → settle before (checkRows bytes w ++ rest) a after .answer .code ≡ 0
+    → (w ≡ false) × ((t : Tree) × (nodes t ≤ 65535) × (image t ≡ bytes)) × NoneHolds rest
+unfolding checkRows
+rows-done before a after bytes w rest o e =
+    let h = none-held before a after 0 (checkRows bytes w ++ rest) (omega arith, (omega arith, (omega arith, o))) e .0 in
+    (neither (wrongSize bytes) w (h .0) .1, is-image bytes .0 (not-false (isImage bytes) (h .1 .1 .0)), h .1 .1 .1)

@@ -1,0 +1,33 @@
+// Of one string of an image: its bits, and bytes that are zero.
+ghost use mathlib.Core.Path.{_≡_};
+ghost use Prim.Native.Nat.{_+_, _*_, _/_, _%_, _≤_, _<_};
+ghost use lib.ListN.{length};
+ghost use Rattle.meaning.specs.Bytes.{bitAt, value};
+ghost use Rattle.image_string.specs.Says.{Says};
+ghost use Rattle.image_string.specs.Parts.{ZeroBytes};
+use bit::bit_at;
+
+// Bit i of the string whose blocks begin at block `first`.
+pub fn string_bit(b: &[u8], first: usize, i: usize) -> u8
+    requires { ⌜ i < 70000 ⌝ }
+    requires { ⌜ first ≤ 53 ⌝ }
+    requires { ⌜ 512 * (first + i / 4000 + 1) ≤ length (now b) ⌝ }
+    ensures { λ r. ⌜ r ≡ value (bitAt (now (b .entry)) (8 * (512 * (first + i / 4000) + 4) + i % 4000)) ⌝ }
+{
+    bit_at(b, 8 * (512 * (first + i / 4000) + 4) + i % 4000)
+}
+
+// Are the bytes from `from` to before `to` all zero? It looks at every one, whatever it finds, so that it becomes lanes.
+pub fn zeros_between(b: &[u8], from: usize, to: usize) -> bool
+    requires { ⌜ from ≤ to ⌝ }
+    requires { ⌜ to ≤ length (now b) ⌝ }
+    ensures { λ r. ⌜ Says r (ZeroBytes (now (b .entry)) from to) ⌝ }
+{
+    let mut seen: u8 = 0;
+    let mut i = from;
+    while i < to {
+        seen = seen | b[i];
+        i += 1;
+    }
+    seen == 0
+}

@@ -1,0 +1,117 @@
+-- What the strings of a sound image give: the answers that the tree itself gives, each from ones left of a position and positions of ones.
+use mathlib.Core.Path.{_≡_, sym, ap, ap₂, _∙_, subst}
+use mathlib.Core.Bool.{true}
+use mathlib.Core.List.{List}
+use Prim.Native.Nat.{ℕ, zero, suc, _+_, _-_, _≤_, _<_}
+use native.Mathlib.Omega.{arith}
+use lib.IntN.{ℤ}
+use lib.ListN.{length}
+use Rattle.meaning.specs.Strings.{Bit, lbs, R1, R0, stringOf}
+use Rattle.meaning.specs.Bytes.{bitAt, value}
+use Rattle.meaning.specs.Parents.{parents}
+use Rattle.meaning.specs.Image.{parentsIn, isImage, stringIn}
+use Rattle.meaning.specs.Questions.{Ask, answer}
+use Rattle.theory.specs.Rank.{onesLeft, position}
+use Rattle.theory.specs.Layout.{bitPlace}
+use Rattle.theory.specs.ByStrings.{bitOf, before, byStrings}
+use Rattle.theory.specs.Stages.{Ended, readR1, readR0, nodesOf, zerosFrom}
+use Rattle.theory.proofs.TreeImages.{is-image, parents-in, length-stringIn, stringIn-at}
+use Rattle.theory.proofs.InBlocks.{stringIn-cut}
+use Rattle.theory.proofs.Forms.{length-parents, string-parents}
+use Rattle.theory.proofs.Stages.{image-stages, parts-read}
+use Rattle.theory.proofs.ByStrings.{answers-by-strings}
+use Rattle.image_found.specs.declared.Image.{Image}
+use Rattle.image_found.specs.declared.Checked.the-variants.{Sound}
+use Rattle.image_found.specs.Checked.{checked}
+use Rattle.image_found.proofs.Finding.{sound-known}
+use Rattle.bits_select.proofs.Reaching.{place-le}
+use Rattle.nav_strings.proofs.Strings.{in-r1, in-r0}
+use Rattle.nav_sibling_range.proofs.Counting.{any-else, left-missing}
+
+-- ---- the answers of an image's own tree
+
+image-answers : (bytes : List ℕ) → isImage bytes ≡ true → (ask : Ask) (x : ℕ) (z : ℤ) → 1 ≤ x → x ≤ nodesOf bytes
+    → answer (parentsIn bytes) ask x z ≡ byStrings (readR1 bytes) (readR0 bytes) ask x z
+image-answers bytes e ask x z g h =
+    let r = is-image bytes .0 e in
+    let t = r .0 in
+    let p = parts-read bytes e in
+    let list : parentsIn bytes ≡ parents t = ap parentsIn (sym (r .2)) ∙ parents-in t (r .1) in
+    let string : stringOf (parentsIn bytes) ≡ lbs t = ap stringOf list ∙ string-parents t in
+    ap (λ ps. answer ps ask x z) list
+    ∙ answers-by-strings t ask x g (omega (arith, p .count, ap length list, length-parents t)) z
+    ∙ ap₂ (λ a b. byStrings a b ask x z) (sym (ap R1 string) ∙ p .first) (sym (ap R0 string) ∙ p .second)
+
+-- the strings of an image that was found sound
+pub record Strings (bytes : List ℕ) (i : Image) : Type 0 where
+  pub most : i .nodes ≤ 65535
+  pub marked : i .marks ≤ i .nodes
+  pub length1 : length (readR1 bytes) ≡ i .nodes
+  pub length0 : length (readR0 bytes) ≡ i .nodes + 1
+  pub ended1 : Ended (i .marks) (readR1 bytes)
+  pub ended0 : Ended (i .marks) (readR0 bytes)
+  pub own : (ask : Ask) (x : ℕ) (z : ℤ) → 1 ≤ x → x ≤ i .nodes → answer (parentsIn bytes) ask x z ≡ byStrings (readR1 bytes) (readR0 bytes) ask x z
+
+pub strings : (bytes : List ℕ) (i : Image) → checked bytes ≡ Sound i → Strings bytes i
+strings bytes i found =
+    let k = sound-known bytes i found in
+    let s = image-stages bytes (k .image) in
+    subst (Strings bytes) (sym (k .read)) (record {
+      most = s .header .most;
+      marked = s .header .marksMost;
+      length1 = length-stringIn bytes 1 0 (nodesOf bytes);
+      length0 = length-stringIn bytes _ 0 (nodesOf bytes + 1);
+      ended1 = s .ended1;
+      ended0 = s .ended0;
+      own = image-answers bytes (k .image);
+    })
+
+module _ (bytes : List ℕ) (i : Image) (found : checked bytes ≡ Sound i) where
+  abbrev r1 : List Bit
+  r1 = readR1 bytes
+
+  abbrev r0 : List Bit
+  r0 = readR0 bytes
+
+  -- there is one more one to select
+  pub more1 : (x : ℕ) → 1 ≤ x → x ≤ i .nodes → onesLeft r1 x < i .marks
+  more1 x g h = let s = strings bytes i found in left-missing (i .marks) r1 x (s .ended1) g (omega (arith, s .length1))
+
+  pub more0 : (x : ℕ) → 1 ≤ x → x ≤ i .nodes + 1 → onesLeft r0 x < i .marks
+  more0 x g h = let s = strings bytes i found in left-missing (i .marks) r0 x (s .ended0) g (omega (arith, s .length0))
+
+  -- what is found is small
+  pub few : i .marks ≤ 65535
+  few = let s = strings bytes i found in omega (arith, s .most, s .marked)
+
+  within-length : (first n k : ℕ) → position (stringIn bytes first 0 n) k ≤ n
+  within-length first n k = place-le (stringIn bytes first) (λ a b p. stringIn-cut bytes first a b p) (length-stringIn bytes first) 0 n k
+
+  pub placed1 : (k : ℕ) → position r1 k ≤ i .nodes
+  placed1 k = omega (arith, strings bytes i found .length1, within-length 1 (nodesOf bytes) k, length-stringIn bytes 1 0 (nodesOf bytes))
+
+  pub small1 : (k : ℕ) → position r1 k ≤ 65535
+  small1 k = omega (arith, strings bytes i found .most, placed1 k)
+
+  pub small0 : (k : ℕ) → position r0 k ≤ 65536
+  small0 k =
+      let s = strings bytes i found in
+      let first = zerosFrom (nodesOf bytes) in
+      omega (arith, s .most, s .length0, within-length first (nodesOf bytes + 1) k, length-stringIn bytes first 0 (nodesOf bytes + 1))
+
+  pub small-before : (z : ℕ) → before r1 r0 z ≤ 65535
+  unfolding before
+  small-before zero = omega arith
+  small-before (suc z) = small1 (1 + onesLeft r0 (suc z))
+
+  -- a bit, read from its block
+  bit-read : (first n x y : ℕ) → 1 ≤ x → x ≤ n → y ≡ value (bitAt bytes (bitPlace first (x - 1))) → y ≡ value (bitOf (stringIn bytes first 0 n) x)
+  bit-read first n x y g h e =
+      e ∙ ap (λ p. value (bitAt bytes (bitPlace first p))) (let f : x - 1 ≡ 0 + (x - 1) = omega arith in f)
+      ∙ ap value (sym (any-else (stringIn bytes first 0 n) (x - 1) (omega (arith, length-stringIn bytes first 0 n)) ∙ stringIn-at bytes first 0 n (x - 1) (omega arith)))
+
+  pub bit1 : (x y : ℕ) → 1 ≤ x → x ≤ i .nodes → y ≡ value (bitAt bytes (bitPlace 1 (x - 1))) → y ≡ value (bitOf r1 x)
+  bit1 x y g h e = in-r1 bytes i found (λ r. value (bitOf r x)) y (bit-read 1 (i .nodes) x y g h e)
+
+  pub bit0 : (x y : ℕ) → 1 ≤ x → x ≤ i .nodes → y ≡ value (bitAt bytes (bitPlace (i .zeros) (x - 1))) → y ≡ value (bitOf r0 x)
+  bit0 x y g h e = in-r0 bytes i found (λ r. value (bitOf r x)) y (bit-read (i .zeros) (i .nodes + 1) x y g (omega arith) e)

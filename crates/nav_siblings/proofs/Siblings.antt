@@ -1,0 +1,119 @@
+-- Siblings of a node: what is read from the strings is the answer.
+use mathlib.Core.Path.{_≡_, refl, sym, ap, ap₂, _∙_}
+use mathlib.Core.List.{List}
+use Prim.Native.Nat.{ℕ, zero, suc, _+_, _-_, _≤_, _<_}
+use native.Mathlib.Omega.{arith}
+use lib.IntN.{ℤ, pos, negsuc}
+use Rattle.meaning.specs.Strings.{Bit, ones}
+use Rattle.meaning.specs.Image.{parentsIn}
+use Rattle.meaning.specs.Questions.{Ask, rank, sibling, answer}
+use Rattle.theory.specs.Rank.{onesLeft, position}
+use Rattle.theory.specs.ByStrings.{within, before, parentOf, siblingBy, byStrings}
+use Rattle.theory.specs.Stages.{readR1, readR0}
+use Rattle.theory.proofs.Navigate.{position-zero}
+use Rattle.theory.proofs.ByStrings.{within-there, within-low, within-high}
+use Rattle.image_found.specs.declared.Image.{Image}
+use Rattle.image_found.specs.declared.Checked.the-variants.{Sound}
+use Rattle.image_found.specs.Checked.{checked}
+use Rattle.ask_argument.specs.Values.{moved}
+use Rattle.nav_sibling_range.proofs.Counting.{left-of-one, left-after-one, left-before, right-from, position-less}
+use Rattle.nav_sibling_range.proofs.Own.{strings, more1}
+use Rattle.by_bit.proofs.Bits as Bits
+use Rattle.nav_children.proofs.Families.{before-at}
+
+-- ---- any two strings
+
+module _ (r1 r0 : List Bit) where
+  -- siblings stand between two ones of R1 that follow each other: before x's parent's zero, and before the next zero
+  module _ (x : ℕ) (there : onesLeft r1 x ≤ ones r0) where
+    siblings-low : before r1 r0 (parentOf r1 r0 x) ≡ position r1 (onesLeft r1 x)
+    unfolding before parentOf
+    siblings-low = go (onesLeft r1 x) there
+      where
+        go : (k : ℕ) → k ≤ ones r0 → before r1 r0 (position r0 k) ≡ position r1 k
+        go zero h = ap (before r1 r0) (position-zero r0) ∙ sym (position-zero r1)
+        go (suc k) h =
+            before-at r1 r0 (position r0 (suc k)) (omega (arith, position-less r0 k h))
+            ∙ ap (position r1) (let e : 1 + onesLeft r0 (position r0 (suc k)) ≡ suc k = omega (arith, left-of-one r0 k h) in e)
+
+    siblings-high : before r1 r0 (suc (parentOf r1 r0 x)) ≡ position r1 (onesLeft r1 x + 1)
+    unfolding parentOf
+    siblings-high =
+        let k = onesLeft r1 x in
+        before-at r1 r0 (suc (position r0 k)) (omega arith)
+        ∙ ap (position r1) (let e : 1 + onesLeft r0 (suc (position r0 k)) ≡ k + 1 = omega (arith, left-after-one r0 k there) in e)
+
+    sibling-within : (z : ℤ) → siblingBy r1 r0 x z ≡ within (before r1 r0 (parentOf r1 r0 x)) (before r1 r0 (suc (parentOf r1 r0 x))) (moved x z)
+    unfolding siblingBy
+    sibling-within (pos k) = refl
+    sibling-within (negsuc k) = refl
+
+-- ---- the strings of a sound image, and a node
+
+module _ (bytes : List ℕ) (i : Image) (found : checked bytes ≡ Sound i) (x : ℕ) (g : 1 ≤ x) (h : x ≤ i .nodes) where
+  abbrev r1 : List Bit
+  r1 = readR1 bytes
+
+  abbrev r0 : List Bit
+  r0 = readR0 bytes
+
+  abbrev Answers : Ask → ℤ → ℕ → Type 0
+  Answers ask z y = y ≡ answer (parentsIn bytes) ask x z
+
+  given : (ask : Ask) (z : ℤ) (y : ℕ) → y ≡ byStrings r1 r0 ask x z → Answers ask z y
+  given = Bits.given bytes i found x g h
+
+  siblings-there : onesLeft r1 x ≤ ones r0
+  siblings-there =
+      omega (arith, strings bytes i found .ended0 .count, more1 bytes i found x g h)
+
+  -- the last node before the siblings of x, and the last of them
+  abbrev start : ℕ
+  start = position r1 (onesLeft r1 x)
+
+  abbrev end : ℕ
+  end = position r1 (onesLeft r1 x + 1)
+
+  start-is : start ≡ before r1 r0 (parentOf r1 r0 x)
+  start-is = sym (siblings-low r1 r0 x siblings-there)
+
+  module _ (low : ℕ) (from : low ≡ start) where
+    pub rank-above : low < x
+    rank-above = omega (arith, left-before r1 x g)
+
+    pub rank-given : Answers rank (pos 0) (x - low)
+    unfolding byStrings
+    rank-given = given rank (pos 0) (x - low) (ap (λ n. x - n) (from ∙ start-is))
+
+  module _ (y : ℕ) (z : ℤ) (place : y ≡ moved x z) where
+    sibling-given : (v : ℕ) → v ≡ within start end y → Answers sibling z v
+    unfolding byStrings
+    sibling-given v e =
+        given sibling z v (
+        e ∙ ap (within start end) place
+        ∙ ap₂ (λ a b. within a b (moved x z)) start-is (sym (siblings-high r1 r0 x siblings-there))
+        ∙ sym (sibling-within r1 r0 x siblings-there z)
+        )
+
+    -- x is among its siblings
+    upto : x ≤ end
+    upto =
+        omega (
+          arith,
+          right-from r1 x (omega (arith, strings bytes i found .ended1 .count, more1 bytes i found x g h)),
+          ap (position r1) (let e : suc (onesLeft r1 x) ≡ onesLeft r1 x + 1 = omega arith in e),
+        )
+
+    module _ (low : ℕ) (from : low ≡ start) where
+      pub left-none : y ≤ low → Answers sibling z 0
+      left-none e = sibling-given 0 (sym (within-low start end y (omega arith)))
+
+      pub left-some : low < y → y < x → Answers sibling z y
+      left-some e f = sibling-given y (sym (within-there start end y (omega arith) (omega (arith, upto))))
+
+    module _ (high : ℕ) (to : high ≡ end) where
+      pub right-none : high < y → Answers sibling z 0
+      right-none e = sibling-given 0 (sym (within-high start end y (omega arith)))
+
+      pub right-some : x ≤ y → y ≤ high → Answers sibling z y
+      right-some e f = sibling-given y (sym (within-there start end y (omega (arith, left-before r1 x g)) (omega arith)))

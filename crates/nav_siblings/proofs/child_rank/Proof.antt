@@ -1,0 +1,27 @@
+-- `nav_siblings::child_rank` meets its contract.
+use native.Mathlib.Omega.{arith}
+use Rattle.nav_siblings.proofs.Siblings.{rank-above, rank-given}
+use borrow.Author.Needs.{needs}
+use Rattle.nav_siblings.proofs.child_rank.Statement.{statement}
+use Rattle.nav_siblings.proofs.child_rank.Tie as tie
+
+run-before-requires : tie.Need-run-before-requires
+run-before-requires c κs = search needs
+
+sub-result : tie.Need-sub-result
+sub-result c =
+    let s = c .before .before in
+    let a = s .args in
+    omega (arith, rank-above (a .b .now) (a .image) (s .pre .0) (a .x) (s .pre .1 .0) (s .pre .1 .1) (c .run-before .result) (c .run-before .ensures))
+
+cast-result : tie.Need-cast-result
+cast-result c = search needs
+
+returns : tie.Need-returns
+returns c =
+    let s = c .before .before in
+    let a = s .args in
+    rank-given (a .b .now) (a .image) (s .pre .0) (a .x) (s .pre .1 .0) (s .pre .1 .1) (c .run-before .result) (c .run-before .ensures)
+
+pub child-rank-spec : {M : Type 1} → statement M
+child-rank-spec = tie.close (tie.spec run-before-requires sub-result cast-result returns)

@@ -1,0 +1,26 @@
+-- What the outline program prints for the bytes that it reads (document 01, "The outline program"), in lines of outline_heading/specs/Lines.antt.
+use mathlib.Core.Bool.{cond}
+use mathlib.Core.List.{List, _++_}
+use Prim.Native.Nat.{ℕ, _*_}
+use lib.Dec.{ltb, eqb}
+use lib.ListN.{replicate}
+use Rattle.meaning.specs.declared.Answer.{Answer}
+use Rattle.meaning.specs.Blocks.{blocksIn}
+use Rattle.meaning.specs.Image.{parentsIn}
+use Rattle.meaning.specs.Calls.{checkImage, listImage}
+use Rattle.outline_heading.specs.Lines.{heading, nodeLines, refusal}
+
+-- after the check and the listing of the root: the heading alone if n is over 4,000, the heading and the nodes, or the refusal alone
+unfoldable pub printed : List ℕ → Answer → Answer → List ℕ → List ℕ
+printed bytes found listed pairs =
+    let top = heading (found .first) (found .second) (blocksIn bytes) in
+    cond (eqb (found .code) 0)
+    (cond (ltb 4000 (found .first)) top (cond (eqb (listed .code) 0) (top ++ nodeLines (parentsIn bytes) pairs) (refusal listed)))
+    (refusal found)
+
+-- the root is node 1, and there is room for every node in its listing
+unfoldable pub outlineOf : List ℕ → List ℕ
+outlineOf bytes =
+    let found = checkImage bytes .answer in
+    let listed = listImage bytes 1 (replicate (2 * found .first) 0) in
+    printed bytes found (listed .answer) (listed .lent)

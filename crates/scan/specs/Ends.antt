@@ -1,8 +1,0 @@
--- Where the code says that a tree ends, as the end that is meant.
-use Rattle.closing.specs.Ends.{End, over, refused}
-use Rattle.scan.specs.declared.TreeEnd.{TreeEnd}
-use Rattle.scan.specs.declared.TreeEnd.the-variants.{Over, Refused}
-
-abbrev pub endOf : TreeEnd → End
-endOf (Over next size) = over next size
-endOf (Refused place) = refused place

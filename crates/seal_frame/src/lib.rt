@@ -1,0 +1,48 @@
+// The header of an image, the counts of its blocks, and zeros before all is written.
+ghost use mathlib.Core.Path.{_≡_};
+ghost use mathlib.Core.List.{_++_};
+ghost use Prim.Native.Nat.{_+_, _*_, _≤_};
+ghost use lib.ListN.{length, drop, replicate};
+ghost use Rattle.meaning.specs.Image.{stringBlocks};
+ghost use Rattle.seal_frame.specs.Passes.{Counted, headed};
+
+// The first so many bytes become 0.
+pub fn clear(image: &mut [u8], bytes: usize)
+    requires { ⌜ bytes ≤ length (now image) ⌝ }
+    ensures { λ _. ⌜ now (image .exit) ≡ replicate bytes 0 ++ drop bytes (now (image .entry)) ⌝ }
+{
+    let mut i: usize = 0;
+    while i < bytes {
+        image[i] = 0;
+        i += 1;
+    }
+}
+
+// The counts of earlier ones in the blocks from `from` on, which hold n bits.
+pub fn put_counts(image: &mut [u8], from: usize, n: usize)
+    requires { ⌜ from ≤ 53 ⌝ }
+    requires { ⌜ n ≤ 65536 ⌝ }
+    requires { ⌜ 512 * (from + stringBlocks n) ≤ length (now image) ⌝ }
+    ensures { λ _. ⌜ Counted (now (image .entry)) (now (image .exit)) from n ⌝ }
+{
+    let end = image_layout::string_blocks(n);
+    let mut c: u32 = 0;
+    let mut j: usize = 0;
+    while j < end {
+        image_words::put_word(image, 512 * (from + j), c);
+        // of the last block all 4,000 bits too: its ones are in no count
+        c += bits_count::ones_from(image, 512 * (from + j) + 4, 4000);
+        j += 1;
+    }
+}
+
+// The four words of the header.
+pub fn put_header(image: &mut [u8], n: u32, m: u32, blocks: u32)
+    requires { ⌜ 512 ≤ length (now image) ⌝ }
+    ensures { λ _. ⌜ now (image .exit) ≡ headed (now (image .entry)) n m blocks ⌝ }
+{
+    image_words::put_word(image, 0, 1);
+    image_words::put_word(image, 4, n);
+    image_words::put_word(image, 8, m);
+    image_words::put_word(image, 12, blocks);
+}

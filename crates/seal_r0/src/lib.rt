@@ -1,0 +1,83 @@
+// R0 and its samples, and with R1 all runs of a parent list, marked in an image.
+ghost use mathlib.Core.Path.{_≡_};
+ghost use Prim.Native.Nat.{_+_, _*_, _/_, _≤_};
+ghost use lib.ListN.{length};
+ghost use Rattle.meaning.specs.Image.{stringBlocks};
+ghost use Rattle.meaning.specs.Parents.{badEntry};
+ghost use Rattle.theory.specs.Stages.{blocksOfSamples};
+ghost use Rattle.seal_r1_bits.specs.Listed.{marksIn};
+ghost use Rattle.seal_r1.specs.Passes.{bytePlace, Blank, Known, Gapped, Followed, Ready, Ran};
+use parents_check::wide;
+use seal_r1::mark_ends;
+
+// Where byte number c of a string stands whose blocks begin at `from`.
+fn byte_place(from: usize, c: usize) -> usize
+    requires { ⌜ from ≤ 53 ⌝ }
+    requires { ⌜ c ≤ 70000 ⌝ }
+    ensures { λ r. ⌜ r ≡ bytePlace from c ⌝ }
+{
+    512 * (from + c / 500) + 4 + c % 500
+}
+
+// R0: before each entry but the first a run of zeros ends, and one after the last. The byte of the entries at hand is in `byte`, and not yet in the image.
+fn mark_gaps(image: &mut [u8], ps: &[u32], zeros: usize)
+    requires { ⌜ 1 ≤ length (now ps) ⌝ }
+    requires { ⌜ length (now ps) ≤ 65535 ⌝ }
+    requires { ⌜ badEntry (now ps) ≡ 0 ⌝ }
+    requires { ⌜ zeros ≤ 53 ⌝ }
+    requires { ⌜ 512 * (zeros + stringBlocks (length (now ps) + 1)) ≤ length (now image) ⌝ }
+    requires { ⌜ Blank (now image) zeros (stringBlocks (length (now ps) + 1)) ⌝ }
+    ensures { λ _. ⌜ Gapped (now (image .entry)) (now (image .exit)) (now (ps .entry)) zeros ⌝ }
+{
+    let mut c: usize = 0;
+    let mut byte: u8 = 0;
+    let mut i: usize = 1;
+    while i < ps.len() {
+        let x = wide(ps[i]) - 1;
+        if x / 8 != c {
+            let at = byte_place(zeros, c);
+            image[at] = byte;
+            c = x / 8;
+            let to = byte_place(zeros, c);
+            byte = image[to];
+        }
+        byte = byte | (128 >> (x % 8));
+        i += 1;
+    }
+    let at = byte_place(zeros, c);
+    image[at] = byte;
+    let n = ps.len();
+    bit::set_bit(image, 8 * (512 * (zeros + n / 4000) + 4) + n % 4000);
+}
+
+// The samples of R0 of a list with m runs: the run of zeros with the same number as a run of ones ends before the entry after it.
+fn follow(image: &mut [u8], ps: &[u32], first: usize, second: usize, m: usize)
+    requires { ⌜ 1 ≤ length (now ps) ⌝ }
+    requires { ⌜ length (now ps) ≤ 65535 ⌝ }
+    requires { ⌜ badEntry (now ps) ≡ 0 ⌝ }
+    requires { ⌜ m ≡ marksIn (now ps) ⌝ }
+    requires { ⌜ second ≤ 53 ⌝ }
+    requires { ⌜ first + blocksOfSamples m ≤ second ⌝ }
+    requires { ⌜ 512 * (second + blocksOfSamples m) ≤ length (now image) ⌝ }
+    requires { ⌜ Known (now image) (now ps) first ⌝ }
+    requires { ⌜ Blank (now image) second (blocksOfSamples m) ⌝ }
+    ensures { λ _. ⌜ Followed (now (image .entry)) (now (image .exit)) (now (ps .entry)) second ⌝ }
+{
+    let mut s: usize = 0;
+    while 64 * s < m {
+        let place = wide(image_words::word(image, 512 * (first + s / 126) + 4 * (s % 126)));
+        let next = seal_r1_bits::next_entry(ps, place - 1);
+        image_words::put_word(image, 512 * (second + s / 126) + 4 * (s % 126), next as u32);
+        s += 1;
+    }
+}
+
+// The bits and samples of both strings.
+pub fn mark_runs(image: &mut [u8], ps: &[u32], zeros: usize, first: usize, second: usize)
+    requires { ⌜ Ready (now image) (now ps) zeros first second ⌝ }
+    ensures { λ _. ⌜ Ran (now (image .entry)) (now (image .exit)) (now (ps .entry)) ⌝ }
+{
+    let m = mark_ends(image, ps, first);
+    mark_gaps(image, ps, zeros);
+    follow(image, ps, first, second, m);
+}

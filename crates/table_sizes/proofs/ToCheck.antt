@@ -1,0 +1,35 @@
+-- What the test of an image's size comes to.
+use mathlib.Core.Path.{_≡_, refl, subst}
+use mathlib.Core.Bool.{Bool, true, false, not}
+use mathlib.Core.List.{List}
+use Prim.Native.Nat.{ℕ, _/_, _%_, _<_}
+use lib.Dec.{eqb}
+use lib.ListN.{length}
+use Rattle.meaning.specs.Calls.{outside, wrongSize}
+use Rattle.theory.proofs.Settled.{or-first, or-second, or-neither, below, beyond, between, unequal, equal}
+use Rattle.table_sizes.specs.ToCheck.{Sized, ToldToCheck}
+
+module _ (image : List ℕ) where
+  abbrev cut : Bool
+  cut = not (eqb (length image % 512) 0)
+
+  abbrev other : Bool
+  other = outside 5 53 (length image / 512)
+
+  pub wrong-cut : (length image % 512 ≡ 0 → ⊥) → wrongSize image ≡ true
+  wrong-cut h = or-first cut other (unequal (length image % 512) 0 h)
+
+  pub wrong-few : length image / 512 < 5 → wrongSize image ≡ true
+  wrong-few h = or-second cut other (below 5 53 (length image / 512) h)
+
+  pub wrong-many : 53 < length image / 512 → wrongSize image ≡ true
+  wrong-many h = or-second cut other (beyond 5 53 (length image / 512) h)
+
+  pub none-wrong : Sized (length image) → wrongSize image ≡ false
+  none-wrong z = or-neither cut other (equal (length image % 512) 0 (z .whole)) (between 5 53 (length image / 512) (z .some) (z .most))
+
+  pub told-wrong : {r : Bool} → ToldToCheck r (length image) → r ≡ true → wrongSize image ≡ true
+  told-wrong t e = subst (λ b. ToldToCheck b (length image)) e t image refl
+
+pub told-right : (bytes : ℕ) {r : Bool} → ToldToCheck r bytes → r ≡ false → Sized bytes
+told-right bytes t e = subst (λ b. ToldToCheck b bytes) e t

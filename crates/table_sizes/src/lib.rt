@@ -1,0 +1,67 @@
+// The sizes of packs that are split, of packs and trees that are joined, and of images (document 01, code 2).
+ghost use Rattle.table_sizes.specs.ToSplit.{ToldToSplit};
+ghost use Rattle.table_sizes.specs.ToJoin.{ToldToJoin};
+ghost use Rattle.table_sizes.specs.ToCheck.{ToldToCheck};
+use meaning::FEWEST_BLOCKS;
+use meaning::MOST_BITS;
+use meaning::MOST_BLOCKS;
+use meaning::MOST_NODES;
+use meaning::MOST_TREES;
+
+// Is the number of bytes, bits or trees of a pack that is to be split wrong?
+pub fn wrong_to_split(bytes: usize, bits: usize, trees: usize) -> bool
+    ensures { λ r. ⌜ ToldToSplit r bytes bits trees ⌝ }
+{
+    if MOST_BITS < bits {
+        return true;
+    }
+    if bytes != (bits + 7) / 8 {
+        return true;
+    }
+    if MOST_TREES < trees {
+        return true;
+    }
+    false
+}
+
+// Is the number of bytes, earlier bits or trees of a pack, or of nodes of a tree that is to be joined to it, wrong?
+pub fn wrong_to_join(bytes: usize, earlier: usize, trees: usize, nodes: usize) -> bool
+    ensures { λ r. ⌜ ToldToJoin r bytes earlier trees nodes ⌝ }
+{
+    if nodes < 1 {
+        return true;
+    }
+    if MOST_NODES < nodes {
+        return true;
+    }
+    if MOST_BITS < earlier {
+        return true;
+    }
+    if bytes < (earlier + 7) / 8 {
+        return true;
+    }
+    if MOST_TREES - 1 < trees {
+        return true;
+    }
+    let longer = earlier + (2 * nodes + 1);
+    if MOST_BITS < longer {
+        return true;
+    }
+    false
+}
+
+// Is the number of bytes of an image wrong?
+pub fn wrong_to_check(bytes: usize) -> bool
+    ensures { λ r. ⌜ ToldToCheck r bytes ⌝ }
+{
+    if bytes % 512 != 0 {
+        return true;
+    }
+    if bytes / 512 < FEWEST_BLOCKS {
+        return true;
+    }
+    if MOST_BLOCKS < bytes / 512 {
+        return true;
+    }
+    false
+}
