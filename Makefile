@@ -7,17 +7,18 @@ help:
 	@echo 'make against   compares the library with the independent program for longer (SEED=7 MINUTES=10)'
 	@echo 'make clean     removes target/'
 
+# $(call step,WHAT,LOG,COMMAND): a line for WHAT. What COMMAND says goes to target/LOG.log, and its end is shown where it fails.
+step = @printf '%s: ' '$(1)'; if ($(3)) >target/$(2).log 2>&1; then echo done; else echo 'failed. The end of target/$(2).log:'; tail -n 30 target/$(2).log; exit 1; fi
+build-seal = gcc -std=c11 -Wall -Wextra -Werror -O2 -Iinclude examples/seal.c target/lib/libparlaqen.a -o target/examples/seal
+
 demo:
-	@echo '== 1. prove the outline program and all it stands on'
-	rt check outline
-	@echo '== 2. prove the library and make its archive for this machine'
-	tools/archive
-	@echo '== 3. build the example that seals, and seal examples/diary.txt'
-	mkdir -p target/examples
-	gcc -std=c11 -Wall -Wextra -Werror -O2 -Iinclude examples/seal.c target/lib/libparlaqen.a -o target/examples/seal
-	target/examples/seal examples/diary.txt target/examples/diary.plq
-	@echo '== 4. its outline: number, depth and number of children of each node'
-	tools/run-program outline < target/examples/diary.plq
+	@mkdir -p target/examples
+	$(call step,1. prove the outline program and all it needs (some minutes),demo-check,rt check outline)
+	$(call step,2. prove the library and make its archive for this machine,demo-archive,tools/archive)
+	$(call step,3. build the example that seals,demo-build,$(build-seal))
+	$(call step,4. seal examples/diary.txt,demo-seal,target/examples/seal examples/diary.txt target/examples/diary.plq)
+	@echo '5. its outline: number and depth of each node and its number of children'
+	@tools/run-program outline < target/examples/diary.plq
 
 test:
 	.ci/run

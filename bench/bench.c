@@ -42,7 +42,7 @@ static const struct kind {
 
 enum { KINDS = sizeof kinds / sizeof *kinds };
 
-/* What a peer does that stands beside a call of the library. */
+/* What a peer does that is shown beside a call of the library. */
 enum beside {
     NOTHING,
     OPEN,            /* beside the check: what it takes before the first question */

@@ -8,7 +8,7 @@ enum {
     PACK_BYTES = (PLQ_MOST_BITS + 7) / 8,
     MOST_NUMBERS = 2 * PLQ_MOST_NODES,
     STRING_BITS = 4000, /* of R1 or R0 in one block of an image */
-    BEHIND = 16, /* entries behind each room, which must stay as they are */
+    AFTER = 16, /* entries after each room, which must stay as they are */
     PATTERN = 0xA5
 };
 
@@ -21,8 +21,8 @@ static void *allocate(size_t bytes)
 
 static struct lent new_lent(void)
 {
-    struct lent lent = {allocate(PLQ_MOST_IMAGE_BYTES + BEHIND), allocate((MOST_NUMBERS + BEHIND) * sizeof(uint32_t)),
-                        allocate((PLQ_MOST_TREES + 1 + BEHIND) * sizeof(uint32_t))};
+    struct lent lent = {allocate(PLQ_MOST_IMAGE_BYTES + AFTER), allocate((MOST_NUMBERS + AFTER) * sizeof(uint32_t)),
+                        allocate((PLQ_MOST_TREES + 1 + AFTER) * sizeof(uint32_t))};
     return lent;
 }
 
@@ -49,20 +49,20 @@ static int writes_bytes(const struct request *r)
     return r->call == STRING_OF_PARENTS || r->call == IMAGE_OF_PARENTS || r->call == JOIN;
 }
 
-/* How many bytes of each lent list are looked at, those behind the room included. */
+/* How many bytes of each lent list are looked at, those after the room included. */
 static size_t bytes_lent(const struct request *r)
 {
-    return writes_bytes(r) ? (r->call == JOIN ? r->nbytes : r->room) + BEHIND : 0;
+    return writes_bytes(r) ? (r->call == JOIN ? r->nbytes : r->room) + AFTER : 0;
 }
 
 static size_t numbers_lent(const struct request *r)
 {
-    return writes_bytes(r) || r->call == CHECK_IMAGE ? 0 : (r->room + BEHIND) * sizeof(uint32_t);
+    return writes_bytes(r) || r->call == CHECK_IMAGE ? 0 : (r->room + AFTER) * sizeof(uint32_t);
 }
 
 static size_t second_lent(const struct request *r)
 {
-    return r->call == SPLIT ? (r->second_room + BEHIND) * sizeof(uint32_t) : 0;
+    return r->call == SPLIT ? (r->second_room + AFTER) * sizeof(uint32_t) : 0;
 }
 
 static plq_answer call_afresh(const struct store *store, const struct request *r, const struct lent *lent)
@@ -184,9 +184,9 @@ static void compare_bits(struct comparison *c, const uint8_t *bytes, size_t nbyt
 
 static void compare_strings(struct comparison *c, const uint8_t *string, size_t bits, size_t trees, const uint32_t *parents, uint32_t n, uint32_t damages)
 {
-    uint8_t *copy = allocate(PACK_BYTES + BEHIND);
+    uint8_t *copy = allocate(PACK_BYTES + AFTER);
     size_t nbytes = (bits + 7) / 8;
-    memset(copy, 0, PACK_BYTES + BEHIND);
+    memset(copy, 0, PACK_BYTES + AFTER);
     memcpy(copy, string, nbytes);
     struct request join = {.call = JOIN, .bytes = copy, .bits = bits, .trees = trees, .parents = parents, .n = n};
     for (join.nbytes = nbytes - 1; join.nbytes < nbytes + 2 && join.nbytes < PACK_BYTES; join.nbytes++) compare_call(c, join);
@@ -284,11 +284,11 @@ void compare_tree(struct comparison *c, const uint32_t *parents, uint32_t n, uin
     compare_parents(c, parents, n, string, bits, 1, damages);
     compare_questions(c, image, nbytes, n, damages);
 
-    /* a pack of a few trees: this one behind itself, as long as it fits */
-    uint8_t *pack = allocate(PACK_BYTES + BEHIND);
+    /* a pack of a few trees: this one after itself, as long as it fits */
+    uint8_t *pack = allocate(PACK_BYTES + AFTER);
     struct lent to_pack = {pack, NULL, NULL};
     struct request join = {.call = JOIN, .nbytes = PACK_BYTES, .parents = parents, .n = n};
-    memset(pack, 0, PACK_BYTES + BEHIND);
+    memset(pack, 0, PACK_BYTES + AFTER);
     for (plq_answer joined; join.trees < 5 && (joined = make_call(first, &join, &to_pack)).code == PLQ_DONE; join.trees = joined.second)
         join.bits = joined.first;
     if (join.trees > 1) compare_strings(c, pack, join.bits, join.trees, parents, n, damages);

@@ -16,7 +16,7 @@ struct comparison {
 void begin_comparison(struct comparison *comparison, const struct store *const *stores, size_t count, uint64_t seed);
 void end_comparison(struct comparison *comparison);
 
-/* Makes one call of each store. All answers and every byte of what is lent, and of some entries behind it, must be the same;
+/* Makes one call of each store. All answers and every byte of what is lent, and of some entries after it, must be the same;
  * else it says where they differ and ends the program. What is lent is this comparison's own; for join it is a copy of the
  * request's bytes. */
 void compare_call(struct comparison *comparison, struct request request);

@@ -25,7 +25,7 @@ const char *name_of_shape(enum shape shape)
 
 /* Each shape writes the degrees of n nodes in level order, over zeros. */
 
-/* n - 1 ups and n downs in random order; of its rotations exactly one, that behind the first lowest point, is a tree, read as
+/* n - 1 ups and n downs in random order; of its rotations exactly one, that after the first lowest point, is a tree, read as
  * degrees, each one ended by a down. */
 static void random_degrees(struct chance *chance, uint32_t n, uint32_t *degrees)
 {

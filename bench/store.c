@@ -1,9 +1,9 @@
 /* The plain C store. Compiled with -DSTORE=name -DNAME='"words"', the object offers `const struct store name`.
  *
- * Two things stand here twice, first in the form that document 01 names for the library too, then, where an option asks for
+ * Two things are here twice, first in the form that the specification names for the library too, then, where an option asks for
  * it, in a faster one:
  *   block sums    one loop over the words of a block; -DSTORE_SUMS_BY_LANES: four such chains side by side
- *   the listing   calls itself on each child, leaves included, and reads the bits of a node where they stand in the image;
+ *   the listing   calls itself on each child, leaves included, and reads the bits of a node where they are in the image;
  *                 -DSTORE_LIST_SKIPS_LEAVES: a loop that makes no call, over a copy of both strings without gaps
  *
  * What it is fast by besides: the check reads both strings once, eight bytes at a time, and keeps the counts before each
@@ -23,7 +23,7 @@ enum {
     LEAST_BLOCKS = 5,
     MOST_BLOCKS = PLQ_MOST_IMAGE_BYTES / BLOCK,
     VERSION = 1,
-    STRING_BYTES = 500,   /* bytes of R1 or R0 in one block, behind its count */
+    STRING_BYTES = 500,   /* bytes of R1 or R0 in one block, after its count */
     STRING_BITS = 8 * STRING_BYTES,
     STRING_WORDS = 63,    /* 64-bit words of a string in one block; of the last only the first half is the string's */
     STRING_BLOCKS = 17,   /* the most blocks of one string */
@@ -99,7 +99,7 @@ static size_t bytes_of(size_t bits)
     return (bits + 7) / 8;
 }
 
-/* Is some bit behind the last one set in its byte? */
+/* Is some bit after the last one set in its byte? */
 static bool leftover_set(const uint8_t *bytes, size_t bits)
 {
     return bits % 8 != 0 && (bytes[bits / 8] & 0xFF >> bits % 8) != 0;
@@ -125,7 +125,7 @@ static uint32_t place_of_one(uint64_t raw, uint32_t number)
     /* byte k: the ones in bytes 0 to k; its top bit, free because that is at most 64, then says whether they are enough */
     uint64_t upto = ((fours + (fours >> 4)) & UINT64_C(0x0F0F0F0F0F0F0F0F)) * low;
     uint64_t enough = ((upto | high) - low * number) & high;
-    uint32_t shift = (uint32_t)__builtin_ctzll(enough) - 7; /* eight times the byte it stands in */
+    uint32_t shift = (uint32_t)__builtin_ctzll(enough) - 7; /* eight times the byte it is in */
     number -= upto << 8 >> shift & 0xFF;
     uint32_t in_upper = fours >> (shift + 4) & 0xF;
     uint32_t below = number > in_upper;
@@ -156,7 +156,7 @@ static struct sums sums_of(const uint8_t *block, uint32_t number)
 
 typedef uint32_t lanes __attribute__((vector_size(16)));
 
-/* Four chains of additions side by side; `number` and what one chain alone would have added come in behind the loop. */
+/* Four chains of additions side by side; `number` and what one chain alone would have added come in after the loop. */
 static struct sums sums_of(const uint8_t *block, uint32_t number)
 {
     lanes s = {0}, t = {0}, words;
@@ -273,7 +273,7 @@ static bool in_step(uint64_t x1, uint64_t x0, int32_t lead, uint32_t first, uint
     return true;
 }
 
-/* Are the samples right that belong to ones of this block? `before` has the ones before each of its words and behind the
+/* Are the samples right that belong to ones of this block? `before` has the ones before each of its words and after the
  * last, `next` the number of the first sample that is not yet looked at, and is moved on. */
 static bool samples_right(const uint8_t *string, uint32_t first, const uint32_t before[STRING_WORDS + 1], const uint8_t *samples, uint32_t *next)
 {
@@ -320,7 +320,7 @@ static bool strings_right(const struct image *im, const struct layout *lay)
     return c1 == im->m && c0 == im->m;
 }
 
-/* Is the last bit of a string of `bits` bits a one, and nothing behind it? */
+/* Is the last bit of a string of `bits` bits a one, and nothing after it? */
 static bool ends_in_one(const struct bits *r, uint32_t bits)
 {
     uint32_t used = (bits - 1) % STRING_BITS + 1;
@@ -334,7 +334,7 @@ static bool samples_end(const uint8_t *samples, const struct layout *lay)
     return all_zero(last + 4 * ((lay->samples - 1) % SAMPLES + 1), last + PAYLOAD);
 }
 
-/* Everything behind the sums. */
+/* Everything after the sums. */
 static bool some_tree_gives(const uint8_t *bytes, uint32_t blocks, struct image *im)
 {
     uint32_t n = load32(bytes + 4), m = load32(bytes + 8);
@@ -503,8 +503,8 @@ static plq_answer plain_ask(const uint8_t *image, size_t nbytes, const int32_t *
 
 #ifndef STORE_LIST_SKIPS_LEAVES
 
-/* Writes x and its depth at the front of `pairs` and then, by a call of itself for each child, the child's listing behind
- * what is written. Answers how many numbers that were. A bit of a node is read where it stands in the image, as the library
+/* Writes x and its depth at the front of `pairs` and then, by a call of itself for each child, the child's listing after
+ * what is written. Answers how many numbers that were. A bit of a node is read where it is in the image, as the library
  * reads it. */
 static size_t write_from(const struct image *im, uint32_t *next, uint32_t x, uint32_t depth, uint32_t *pairs)
 {
@@ -635,7 +635,7 @@ struct tree {
 };
 
 /* The refusal of a tree from bit `first` that is not over at the last bit: the bit that is one too many for a tree, or the
- * place behind the last one. */
+ * place after the last one. */
 static size_t unfinished(const uint8_t *bytes, size_t first, size_t bits)
 {
     size_t nodes = 0;
@@ -772,7 +772,7 @@ static plq_answer plain_join(uint8_t *bytes, size_t nbytes, size_t bits, size_t 
 
 /* A string on its way into an image: words that follow each other without the counts and sums between. */
 struct words {
-    uint64_t at[STRING_BLOCKS * STRING_BYTES / 8 + 1]; /* first bit on top; the words behind the last are zero */
+    uint64_t at[STRING_BLOCKS * STRING_BYTES / 8 + 1]; /* first bit on top; the words after the last are zero */
 };
 
 /* Node i ends its siblings exactly if the next one has another parent. */
@@ -794,7 +794,7 @@ static uint32_t make_r1(struct words *r1, const uint32_t *parents, uint32_t n)
     return count;
 }
 
-/* A node that is somebody's parent has children; the place behind the last node ends the string. */
+/* A node that is somebody's parent has children; the place after the last node ends the string. */
 static void make_r0(struct words *r0, const uint32_t *parents, uint32_t n)
 {
     uint64_t x = 0;
@@ -875,7 +875,7 @@ static plq_answer plain_parents_of_image(const uint8_t *image, size_t nbytes, ui
     if (checked.code != PLQ_DONE) return checked;
     if (room < im.n) return refused(PLQ_NO_ROOM, 0);
 
-    /* the nodes with children, behind a 0 for the root's parent, go to the end of the list; then each entry is written from
+    /* the nodes with children, after a 0 for the root's parent, go to the end of the list; then each entry is written from
      * the front. An entry still to be read is never written over: from any node on, at most as many parents as nodes follow. */
     uint32_t *inner = parents + (im.n - im.m);
     *inner++ = 0;

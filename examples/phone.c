@@ -1,6 +1,6 @@
 /* What the phone does with a sealed diary: lock the container, copy the image, unlock, and only then ask the copy.
  *
- *     phone CONTAINER [NODE]     the seasons and weeks of the diary, and what stands around NODE
+ *     phone CONTAINER [NODE]     the seasons and weeks of the diary, and what is around NODE
  *
  * The lock is held while at most 27,136 bytes are copied, and never while they are checked, asked or shown. If the
  * phone goes to sleep in the middle of the diary, the container is free and the watch can write its lap.

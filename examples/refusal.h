@@ -9,13 +9,13 @@
 static inline int refused(const char *what, plq_answer answer)
 {
     unsigned place = answer.place;
-    fflush(stdout); /* what was shown before stands before the message */
+    fflush(stdout); /* what was shown before comes before the message */
     fprintf(stderr, "%s: refused %u %u: ", what, (unsigned)answer.code, place);
     switch (answer.code) {
     case PLQ_WRONG_SIZE: fputs("a count, a length or a number of blocks is outside its limits", stderr); break;
     case PLQ_WRONG_SUMS: fprintf(stderr, "block %u of the image is damaged", place); break;
     case PLQ_NOT_IMAGE: fputs("no block is damaged, but no tree gives this image", stderr); break;
-    case PLQ_LEFTOVER_SET: fputs("a bit behind the last one, in the same byte, is set", stderr); break;
+    case PLQ_LEFTOVER_SET: fputs("a bit after the last one, in the same byte, is set", stderr); break;
     case PLQ_NOT_STRING: fprintf(stderr, "bit %u: no tree string has these bits", place); break;
     case PLQ_OTHER_TREES: fprintf(stderr, "the pack has %u trees, which is not the number given", place); break;
     case PLQ_NOT_PARENTS: fprintf(stderr, "entry %u: no parent list has this number here", place); break;

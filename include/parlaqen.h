@@ -4,7 +4,7 @@
  * each node, in that order, the number of its parent, and 0 for the root.
  *
  * Every call takes whatever bytes and numbers it is handed, ends, and answers by value. A refused call changes no byte
- * of any buffer lent to it; a call that is done leaves what lies behind its result as it was. A list is a pointer and
+ * of any buffer lent to it; a call that is done leaves what lies after its result as it was. A list is a pointer and
  * then its number of elements. Lists lent to one call do not overlap; an empty one may come with any pointer. Nothing
  * is kept between calls and nothing is allocated, so calls on different buffers may run at the same time.
  */
@@ -29,7 +29,7 @@ enum plq_code {
     PLQ_WRONG_SIZE = 2,   /* a count, a length or a number of blocks is outside its limits; place 0 */
     PLQ_WRONG_SUMS = 6,   /* a block of the image is damaged; place: the lowest such block, from 0 */
     PLQ_NOT_IMAGE = 7,    /* no block is damaged, but no tree gives this image; place 0 */
-    PLQ_LEFTOVER_SET = 5, /* a bit behind the last one, in the same byte, is set; place 0 */
+    PLQ_LEFTOVER_SET = 5, /* a bit after the last one, in the same byte, is set; place 0 */
     PLQ_NOT_STRING = 4,   /* no tree string (pack: no strings end to end); place: the first bit, from 1, up to which the
                              bits begin none, or one more than there are bits */
     PLQ_OTHER_TREES = 10, /* the pack has another number of trees; place: the number found */
@@ -76,7 +76,8 @@ plq_answer plq_string_of_parents(const uint32_t *parents, size_t n, uint8_t *byt
  * Counts: n and 0. Refusals: 2, 5, 4, 1. */
 plq_answer plq_parents_of_string(const uint8_t *bytes, size_t nbytes, size_t bits, uint32_t *parents, size_t room);
 
-/* Parents to the sealed image: 5 to 53 blocks of 512 bytes. How many they are then stands in byte image[12].
+/* Parents to the sealed image: 5 to 53 blocks of 512 bytes. Word 3 of the image (bytes 12 to 15, little-endian) then has
+ * the number of blocks.
  * Counts: n, and m, which is one more than there are nodes with children. Refusals: 2, 3, 1. */
 plq_answer plq_image_of_parents(const uint32_t *parents, size_t n, uint8_t *image, size_t room);
 
@@ -100,7 +101,7 @@ plq_answer plq_ask(const uint8_t *image, size_t nbytes, const int32_t *questions
 plq_answer plq_split(const uint8_t *bytes, size_t nbytes, size_t bits, size_t trees, uint32_t *starts,
                      size_t starts_room, uint32_t *sizes, size_t sizes_room);
 
-/* Adds one tree, given by its parents, behind a pack in a buffer that may be longer than the pack. Earlier bits stay,
+/* Adds one tree, given by its parents, after a pack in a buffer that may be longer than the pack. Earlier bits stay,
  * and so do the bytes after the new last one. Counts: the new bits, and trees + 1. Refusals: 2, 5, 4, 10, 3, 1. */
 plq_answer plq_join(uint8_t *pack, size_t nbytes, size_t bits, size_t trees, const uint32_t *parents, size_t n);
 

@@ -1,9 +1,9 @@
 /* Each of the nine calls once through the header, done, and one refusal: with lists and numbers that are all different, so
  * that two parameters of a call, or two fields of the answer, that the header had in another order than the library would
- * give other answers or other lists. It stands beside tools/test-product, which compiles it with every such exchange and
+ * give other answers or other lists. It is used by tools/test-product, which compiles it with every such exchange and
  * expects that it is seen, and not among the examples, since it shows nobody how to use the calls.
  *
- * What is expected is that of document 01: T has parents 0 1 1 1 2 2 4, string 101110110010000 (bytes BB 20) and m = 4;
+ * What is expected is that of docs/FORMAT.md: T has parents 0 1 1 1 2 2 4, string 101110110010000 (bytes BB 20) and m = 4;
  * the path 0 1 2 has string 1010100. Exit status: 0 if all is as expected. */
 #include <parlaqen.h>
 #include <stdio.h>
@@ -21,7 +21,7 @@ static int wrong;
 static void expect(const char *what, int as_expected)
 {
     if (as_expected) return;
-    printf("%s: not as document 01 has it\n", what);
+    printf("%s: not as docs/FORMAT.md has it\n", what);
     wrong = 1;
 }
 

@@ -24,7 +24,7 @@ fn counts_of_tree(answer: Answer) -> Result<Counts> {
 
 /// Writes the tree string of a parent list into `bytes` and gives its number of bits, 2n + 1 for n nodes.
 ///
-/// It takes n / 4 + 1 bytes; what lies behind them in `bytes` stays.
+/// It takes n / 4 + 1 bytes; what lies after them in `bytes` stays.
 /// [`TreeString::of_parents`](crate::TreeString::of_parents) makes the room itself.
 ///
 /// ```
@@ -51,8 +51,8 @@ pub fn parents_of_string(bytes: &[u8], bits: usize, parents: &mut [u32]) -> Resu
 /// Writes the sealed image of a parent list into `image`.
 ///
 /// [`MOST_IMAGE_BYTES`](crate::MOST_IMAGE_BYTES) are always enough; how many blocks of
-/// [`BLOCK_BYTES`](crate::BLOCK_BYTES) were written then stands in `image[12]`. [`seal`](crate::seal) makes the room
-/// itself.
+/// [`BLOCK_BYTES`](crate::BLOCK_BYTES) were written is then word 3 of the image: bytes 12 to 15, little-endian.
+/// [`seal`](crate::seal) makes the room itself.
 ///
 /// ```
 /// use parlaqen::{image_of_parents, Counts, BLOCK_BYTES};
@@ -124,7 +124,7 @@ pub fn split(bytes: &[u8], bits: usize, trees: usize, starts: &mut [u32], sizes:
     counts(sys::split(bytes, bits, trees, starts, sizes)).map(|_| ())
 }
 
-/// Adds the tree of a parent list behind a pack, in a buffer that may be longer than the pack, and gives the new number
+/// Adds the tree of a parent list after a pack, in a buffer that may be longer than the pack, and gives the new number
 /// of bits. There are `trees + 1` trees then.
 ///
 /// ```

@@ -30,7 +30,7 @@ pub enum Error {
         /// if they only end too early.
         bit: u32,
     },
-    /// Code 5: a bit behind the last one, in the same byte, is set.
+    /// Code 5: a bit after the last one, in the same byte, is set.
     LeftoverSet,
     /// Code 6: a block of the image is damaged.
     WrongSums {
@@ -119,7 +119,7 @@ impl fmt::Display for Error {
             Self::WrongSize => write!(f, "a count, a length or a number of blocks is outside its limits"),
             Self::NotParents { entry } => write!(f, "entry {entry}: no parent list has this number here"),
             Self::NotString { bit } => write!(f, "bit {bit}: no tree string has these bits"),
-            Self::LeftoverSet => write!(f, "a bit behind the last one, in the same byte, is set"),
+            Self::LeftoverSet => write!(f, "a bit after the last one, in the same byte, is set"),
             Self::WrongSums { block } => write!(f, "block {block} of the image is damaged"),
             Self::NotImage => write!(f, "no block is damaged, but no tree gives this image"),
             Self::NotAllowed { question } => {

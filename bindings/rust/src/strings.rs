@@ -61,7 +61,7 @@ pub struct Pack {
     trees: usize,
 }
 
-/// Where a tree stands in a pack.
+/// Where a tree is in a pack.
 #[derive(Clone, Copy, Debug, PartialEq, Eq)]
 pub struct Part {
     /// Its first bit, from 1.
@@ -111,7 +111,7 @@ impl Pack {
         joined.map(|_| ())
     }
 
-    /// Where each tree stands.
+    /// Where each tree is.
     pub fn split(&self) -> Result<Vec<Part>> {
         // more trees are refused before room matters
         let room = self.trees.min(MOST_TREES);

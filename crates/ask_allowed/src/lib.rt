@@ -34,7 +34,7 @@ pub fn number(z: Signed) -> u32
 }
 
 // Kinds 8 and 10 take any argument, the others 0.
-fn takes(kind: u32, z: Signed) -> bool
+fn argument_allowed(kind: u32, z: Signed) -> bool
     ensures { λ r. ⌜ r ≡ allowedKind (kindOf (pos kind)) (valueOf z) ⌝ }
 {
     if kind < 1 {
@@ -64,11 +64,11 @@ fn allowed_at(asked: &[i32], i: usize, n: u32) -> bool
     if n < node {
         return false;
     }
-    takes(number(signed_at(asked, 3 * i)), signed_at(asked, 3 * i + 2))
+    argument_allowed(number(signed_at(asked, 3 * i)), signed_at(asked, 3 * i + 2))
 }
 
 // The lowest question, from 1, that is not allowed: 0 if there is none.
-pub fn first_bad(asked: &[i32], n: u32) -> u32
+pub fn lowest_not_allowed(asked: &[i32], n: u32) -> u32
     requires { ⌜ length (now asked) ≤ 3 * 256 ⌝ }
     ensures { λ r. ⌜ r ≡ notAllowed n (questions (now (asked .entry))) 0 ⌝ }
 {

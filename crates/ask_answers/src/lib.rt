@@ -12,11 +12,11 @@ ghost use Rattle.image_found.specs.Checked.{checked};
 ghost use Rattle.ask_allowed.specs.Asked.{questionAt};
 use ask_allowed::number;
 use ask_allowed::signed_at;
-use ask_kinds::reply;
-use image_found::Image;
+use ask_kinds::answer_kind;
+use image_layout::Layout;
 
 // The answer to question number i, from 0, which is allowed.
-fn answer_at(b: &[u8], image: Image, asked: &[i32], i: usize) -> u32
+fn answer_at(b: &[u8], image: Layout, asked: &[i32], i: usize) -> u32
     requires { ⌜ checked (now b) ≡ Sound image ⌝ }
     requires { ⌜ 3 * i + 3 ≤ length (now asked) ⌝ }
     requires { ⌜ allowed (image .nodes) (questionAt (now asked) i) ≡ true ⌝ }
@@ -24,11 +24,11 @@ fn answer_at(b: &[u8], image: Image, asked: &[i32], i: usize) -> u32
 {
     let kind = number(signed_at(asked, 3 * i));
     let node = number(signed_at(asked, 3 * i + 1));
-    reply(b, image, kind, node as usize, signed_at(asked, 3 * i + 2))
+    answer_kind(b, image, kind, node as usize, signed_at(asked, 3 * i + 2))
 }
 
 // Writes the answers to the questions, each of which is allowed.
-pub fn write_answers(b: &[u8], image: Image, asked: &[i32], answers: &mut [u32])
+pub fn write_answers(b: &[u8], image: Layout, asked: &[i32], answers: &mut [u32])
     requires { ⌜ checked (now b) ≡ Sound image ⌝ }
     requires { ⌜ notAllowed (image .nodes) (questions (now asked)) 0 ≡ 0 ⌝ }
     requires { ⌜ length (questions (now asked)) ≤ length (now answers) ⌝ }

@@ -11,7 +11,7 @@ use ask_argument::Signed;
 use by_bit::is_leaf;
 use by_bit::next_sibling;
 use by_bit::previous_sibling;
-use image_found::Image;
+use image_layout::Layout;
 use nav_children::child_number;
 use nav_children::degree_of;
 use nav_children::first_child;
@@ -21,7 +21,7 @@ use nav_siblings::child_rank;
 use nav_siblings::sibling_at;
 
 // The answer to one question, kinds 1 to 10.
-pub fn reply(b: &[u8], image: Image, kind: u32, x: usize, z: Signed) -> u32
+pub fn answer_kind(b: &[u8], image: Layout, kind: u32, x: usize, z: Signed) -> u32
     requires { ⌜ checked (now b) ≡ Sound image ⌝ }
     requires { ⌜ 1 ≤ kind ⌝ }
     requires { ⌜ kind ≤ 10 ⌝ }

@@ -17,7 +17,7 @@ use Rattle.meaning.specs.Answers.{written}
 use Rattle.theory.specs.Layout.{AreBytes}
 use Rattle.theory.proofs.Digits.{same-bits, byte-lt, append-bytes, drop-bytes}
 use Rattle.theory.proofs.Packing.{bits-length, bits-at, packed-length, packed-bytes, packed-bit}
-use Rattle.bit.specs.Lit.{lit}
+use Rattle.bits_byte.specs.Lit.{lit}
 use Rattle.bits_append.specs.Appended.{appended}
 use Rattle.bits_byte.proofs.Table.{all, at}
 use Rattle.bits_byte.proofs.Byte.{digit, either, either-zero, either-one, or-digit}

@@ -1,3 +1,4 @@
+pub mod Values
 pub mod Table
 pub mod Byte
 pub mod Counting

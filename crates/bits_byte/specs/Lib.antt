@@ -1,1 +1,2 @@
+pub mod Lit
 pub mod Byte

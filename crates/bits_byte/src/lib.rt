@@ -1,16 +1,36 @@
 // The bits of a byte, most significant first.
 ghost use mathlib.Core.Path.{_≡_};
-ghost use Prim.Native.Nat.{_<_, _≤_};
-ghost use lib.ListN.{take};
+ghost use mathlib.Core.List.{[], _∷_};
+ghost use Prim.Native.Nat.{_*_, _<_, _≤_};
+ghost use lib.ListN.{length, take};
+ghost use Rattle.meaning.specs.Bytes.{bitAt, value, number};
+ghost use Rattle.bits_byte.specs.Lit.{lit};
 ghost use Rattle.meaning.specs.Strings.{ones};
-ghost use Rattle.meaning.specs.Bytes.{number};
 ghost use Rattle.bits_byte.specs.Byte.{byteBits};
 
-// A byte as a word, in which it can be shifted up.
-pub fn wide(x: u8) -> u64
-    ensures { λ r. ⌜ (r ≡ x) × (r < 256) ⌝ }
+// The bit of `b` that p bits come before.
+pub fn bit_at(b: &[u8], p: usize) -> u8
+    requires { ⌜ p < 8 * length (now b) ⌝ }
+    ensures { λ r. ⌜ r ≡ value (bitAt (now (b .entry)) p) ⌝ }
 {
-    x as u64
+    (b[p / 8] >> (7 - p % 8)) & 1
+}
+
+// Bit j of a byte as a number.
+pub fn bit_of(x: u8, j: usize) -> usize
+    requires { ⌜ j < 8 ⌝ }
+    ensures { λ r. ⌜ r ≡ value (bitAt (x ∷ []) j) ⌝ }
+{
+    ((x >> (7 - j)) & 1) as usize
+}
+
+// Sets the bit that p bits come before.
+pub fn set_bit(buf: &mut [u8], p: usize)
+    requires { ⌜ p < 8 * length (now buf) ⌝ }
+    ensures { λ _. ⌜ now (buf .exit) ≡ lit (now (buf .entry)) p ⌝ }
+{
+    let i = p / 8;
+    buf[i] = buf[i] | (128 >> (p % 8));
 }
 
 // The first n bits of a byte, and zeros after them.

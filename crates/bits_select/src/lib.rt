@@ -7,7 +7,7 @@ ghost use Rattle.meaning.specs.Bytes.{bitsFrom};
 ghost use Rattle.theory.specs.Rank.{position};
 ghost use Rattle.bits_byte.specs.Byte.{byteBits};
 use bits_byte::ones_in_byte;
-use bits_select_byte::place_in_byte;
+use bits_select_byte::select_in_byte;
 use bits_word::ones_in_word;
 
 // How many bits of the two bytes from `at` on are one.
@@ -26,7 +26,7 @@ fn ones_in_four(b: &[u8], at: usize) -> u32
     ones_in_two(b, at) + ones_in_two(b, at + 2)
 }
 
-// The place, from 1, of the k-th one of a byte, by the half that has it, moved to the front: so `place_in_byte` goes one way, and no branch depends on the bits.
+// The place, from 1, of the k-th one of a byte, by the half that has it, moved to the front: so `select_in_byte` goes one way, and no branch depends on the bits.
 fn place_by_half(x: u8, k: u32) -> u32
     requires { ⌜ 1 ≤ k ⌝ }
     requires { ⌜ k ≤ ones (byteBits x) ⌝ }
@@ -41,7 +41,7 @@ fn place_by_half(x: u8, k: u32) -> u32
         need = k - before;
         passed = 4;
     }
-    passed + place_in_byte(half, need)
+    passed + select_in_byte(half, need)
 }
 
 // The place, from 1, of one number k of the eight bytes from `at` on: the half that has it, three times without a branch, and then in its byte.

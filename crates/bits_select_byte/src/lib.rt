@@ -38,7 +38,7 @@ fn place(v: u8, k: u32) -> u8
 }
 
 // The place, from 1, of the k-th one of a byte.
-pub fn place_in_byte(x: u8, k: u32) -> u32
+pub fn select_in_byte(x: u8, k: u32) -> u32
     requires { ⌜ 1 ≤ k ⌝ }
     requires { ⌜ k ≤ ones (byteBits x) ⌝ }
     ensures { λ r. ⌜ r ≡ position (byteBits x) k ⌝ }

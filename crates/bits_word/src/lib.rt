@@ -5,21 +5,21 @@ ghost use lib.ListN.{length};
 ghost use Rattle.meaning.specs.Strings.{ones};
 ghost use Rattle.meaning.specs.Bytes.{bitsFrom, number};
 ghost use Rattle.bits_word.specs.Little.{little};
-use bits_byte::wide;
+use bits_wide::byte_to_u64;
 
 // The number that the eight bytes from `at` on write, the first least significant: one load, whatever is read around it.
 pub fn stored_word(b: &[u8], at: usize) -> u64
     requires { ⌜ at + 8 ≤ length (now b) ⌝ }
     ensures { λ r. ⌜ r ≡ little (now (b .entry)) at 8 ⌝ }
 {
-    wide(b[at])
-        | (wide(b[at + 1]) << 8)
-        | (wide(b[at + 2]) << 16)
-        | (wide(b[at + 3]) << 24)
-        | (wide(b[at + 4]) << 32)
-        | (wide(b[at + 5]) << 40)
-        | (wide(b[at + 6]) << 48)
-        | (wide(b[at + 7]) << 56)
+    byte_to_u64(b[at])
+        | (byte_to_u64(b[at + 1]) << 8)
+        | (byte_to_u64(b[at + 2]) << 16)
+        | (byte_to_u64(b[at + 3]) << 24)
+        | (byte_to_u64(b[at + 4]) << 32)
+        | (byte_to_u64(b[at + 5]) << 40)
+        | (byte_to_u64(b[at + 6]) << 48)
+        | (byte_to_u64(b[at + 7]) << 56)
 }
 
 // How many bits of the eight bytes from `at` on are one.
@@ -35,7 +35,10 @@ fn half_word(b: &[u8], at: usize) -> u64
     requires { ⌜ at + 4 ≤ length (now b) ⌝ }
     ensures { λ r. ⌜ r ≡ number 32 (bitsFrom (now (b .entry)) (8 * at) 32) ⌝ }
 {
-    wide(b[at]) * 16777216 + wide(b[at + 1]) * 65536 + wide(b[at + 2]) * 256 + wide(b[at + 3])
+    byte_to_u64(b[at]) * 16777216
+        + byte_to_u64(b[at + 1]) * 65536
+        + byte_to_u64(b[at + 2]) * 256
+        + byte_to_u64(b[at + 3])
 }
 
 // The 64 bits from byte `at` on as a number, most significant first: sums, which become one load.

@@ -12,14 +12,14 @@ use Rattle.meaning.specs.Image.{parentsIn}
 use Rattle.meaning.specs.Questions.{Ask, nextSibling, previousSibling, leaf, answer}
 use Rattle.theory.specs.ByStrings.{whereZero, bitOf, byStrings}
 use Rattle.theory.specs.Stages.{readR1, readR0}
-use Rattle.image_found.specs.declared.Image.{Image}
+use Rattle.image_layout.specs.declared.Layout.{Layout}
 use Rattle.image_found.specs.declared.Checked.the-variants.{Sound}
 use Rattle.image_found.specs.Checked.{checked}
-use Rattle.bit.proofs.Values.{is-O, is-I}
+use Rattle.bits_byte.proofs.Values.{is-O, is-I}
 use Rattle.nav_sibling_range.proofs.Own.{strings}
 
 -- the strings of a sound image, and a node
-module _ (bytes : List ℕ) (i : Image) (found : checked bytes ≡ Sound i) (x : ℕ) (g : 1 ≤ x) (h : x ≤ i .nodes) where
+module _ (bytes : List ℕ) (i : Layout) (found : checked bytes ≡ Sound i) (x : ℕ) (g : 1 ≤ x) (h : x ≤ i .nodes) where
   abbrev r1 : List Bit
   r1 = readR1 bytes
 

@@ -9,11 +9,11 @@ ghost use Rattle.theory.specs.Stages.{readR1, readR0};
 ghost use Rattle.theory.specs.ByStrings.{bitOf};
 ghost use Rattle.image_found.specs.declared.Checked.the-variants.{Sound};
 ghost use Rattle.image_found.specs.Checked.{checked};
-use image_found::Image;
+use image_layout::Layout;
 use image_string::string_bit;
 
 // Bit x, from 1, of R1.
-fn bit_r1(b: &[u8], image: Image, x: usize) -> u8
+fn bit_r1(b: &[u8], image: Layout, x: usize) -> u8
     requires { ⌜ checked (now b) ≡ Sound image ⌝ }
     requires { ⌜ 1 ≤ x ⌝ }
     requires { ⌜ x ≤ image .nodes ⌝ }
@@ -23,17 +23,17 @@ fn bit_r1(b: &[u8], image: Image, x: usize) -> u8
 }
 
 // Bit x, from 1, of R0.
-pub fn bit_r0(b: &[u8], image: Image, x: usize) -> u8
+pub fn bit_r0(b: &[u8], image: Layout, x: usize) -> u8
     requires { ⌜ checked (now b) ≡ Sound image ⌝ }
     requires { ⌜ 1 ≤ x ⌝ }
     requires { ⌜ x ≤ image .nodes ⌝ }
     ensures { λ r. ⌜ r ≡ value (bitOf (readR0 (now (b .entry))) x) ⌝ }
 {
-    string_bit(b, image.zeros as usize, x - 1)
+    string_bit(b, image.r0_block as usize, x - 1)
 }
 
 // Is node x a leaf, 1 or 0? Exactly if R0 has 0 at x.
-pub fn is_leaf(b: &[u8], image: Image, x: usize) -> u32
+pub fn is_leaf(b: &[u8], image: Layout, x: usize) -> u32
     requires { ⌜ checked (now b) ≡ Sound image ⌝ }
     requires { ⌜ 1 ≤ x ⌝ }
     requires { ⌜ x ≤ image .nodes ⌝ }
@@ -43,7 +43,7 @@ pub fn is_leaf(b: &[u8], image: Image, x: usize) -> u32
 }
 
 // The next sibling of node x: the next node, exactly if R1 has 0 at x.
-pub fn next_sibling(b: &[u8], image: Image, x: usize) -> u32
+pub fn next_sibling(b: &[u8], image: Layout, x: usize) -> u32
     requires { ⌜ checked (now b) ≡ Sound image ⌝ }
     requires { ⌜ 1 ≤ x ⌝ }
     requires { ⌜ x ≤ image .nodes ⌝ }
@@ -56,7 +56,7 @@ pub fn next_sibling(b: &[u8], image: Image, x: usize) -> u32
 }
 
 // The previous sibling of node x: the node before, exactly if R1 has 0 there.
-pub fn previous_sibling(b: &[u8], image: Image, x: usize) -> u32
+pub fn previous_sibling(b: &[u8], image: Layout, x: usize) -> u32
     requires { ⌜ checked (now b) ≡ Sound image ⌝ }
     requires { ⌜ 1 ≤ x ⌝ }
     requires { ⌜ x ≤ image .nodes ⌝ }

@@ -9,13 +9,15 @@ use lib.Dec.{ltb, eqb}
 use lib.IntN.{ℤ}
 use lib.ListN.{length, length-map}
 use Rattle.meaning.specs.declared.Answer.{Answer}
+use Rattle.meaning.specs.declared.Refusal.{Refusal}
 use Rattle.meaning.specs.Answers.{Row, _at_when_, refusedWith, counts, cameTo, settle, written, tooShort}
 use Rattle.meaning.specs.Image.{parentsIn}
 use Rattle.meaning.specs.Questions.{questions, notAllowed, answerTo}
-use Rattle.meaning.specs.Calls.{wrongSize, wrongQuestions, checkRows, askImage}
+use Rattle.meaning.specs.Tests.{wrongSize, checkRows}
+use Rattle.calls.specs.Calls.{wrongQuestions, askImage}
 use Rattle.theory.proofs.Settled.{or-first, or-second, or-neither, unequal, equal, settle-here, settle-on, settle-none}
 use Rattle.theory.proofs.Stages.{parts-read}
-use Rattle.image_found.specs.declared.Image.{Image}
+use Rattle.image_layout.specs.declared.Layout.{Layout}
 use Rattle.image_found.specs.declared.Checked.{Checked}
 use Rattle.image_found.specs.declared.Checked.the-variants.{Sound, Refused}
 use Rattle.image_found.specs.Checked.{checked}
@@ -63,10 +65,10 @@ module _ (bytes : List ℕ) (qs : List ℤ) (out : List ℕ) where
     unfolding askImage
     by-check c e = rows-checked out rest counted (written answers out) bytes (wrongQuestions qs) right ∙ ap (comesTo out rest counted (written answers out)) e
 
-    pub asked-refused : (code place : ℕ) → checked bytes ≡ Refused code place → cameTo (refusedWith code place) out ≡ askImage bytes qs out
-    asked-refused code place e = sym (by-check (Refused code place) e)
+    pub asked-refused : (r : Refusal) → checked bytes ≡ Refused r → cameTo (refusedWith (r .code) (r .place)) out ≡ askImage bytes qs out
+    asked-refused r e = sym (by-check (Refused r) e)
 
-    module _ (i : Image) (e : checked bytes ≡ Sound i) where
+    module _ (i : Layout) (e : checked bytes ≡ Sound i) where
       nodes-are : length given ≡ i .nodes
       nodes-are = let k = sound-known bytes i e in parts-read bytes (k .image) .count ∙ ap (λ j. j .nodes) (sym (k .read))
 

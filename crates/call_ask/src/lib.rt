@@ -1,12 +1,12 @@
 // Questions to an image: the whole check, then which are allowed, then their answers.
 ghost use mathlib.Core.Path.{_≡_};
 ghost use Rattle.meaning.specs.Answers.{cameTo};
-ghost use Rattle.meaning.specs.Calls.{askImage};
-use ask_allowed::first_bad;
+ghost use Rattle.calls.specs.Calls.{askImage};
+use ask_allowed::lowest_not_allowed;
 use ask_answers::write_answers;
 use check_image::check;
 use image_found::Checked;
-use image_found::refusal_of;
+use image_found::answer_of;
 use meaning::Answer;
 use meaning::MOST_QUESTIONS;
 use meaning::NO_ROOM;
@@ -28,9 +28,9 @@ pub fn ask(b: &[u8], questions: &[i32], answers: &mut [u32]) -> Answer
     }
     let found = check(b);
     let Checked::Sound(image) = found else {
-        return refusal_of(found);
+        return answer_of(found);
     };
-    let bad = first_bad(questions, image.nodes);
+    let bad = lowest_not_allowed(questions, image.nodes);
     if bad != 0 {
         return refuse(NOT_ALLOWED, bad);
     }

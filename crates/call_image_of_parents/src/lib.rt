@@ -2,14 +2,14 @@
 ghost use mathlib.Core.Path.{_≡_};
 ghost use Prim.Native.Nat.{_*_};
 ghost use Rattle.meaning.specs.Answers.{cameTo};
-ghost use Rattle.meaning.specs.Calls.{imageOfParents};
+ghost use Rattle.calls.specs.Calls.{imageOfParents};
+use image_layout::layout_of;
 use meaning::Answer;
-use meaning::MOST_NODES;
 use meaning::NO_ROOM;
-use meaning::NOT_PARENTS;
-use meaning::WRONG_SIZE;
-use parents_check::bad_entry;
+use meaning::Verdict;
+use parents_check::parents_refusal;
 use seal_image::write_image;
+use seal_r1_bits::count_runs;
 use table_answers::done;
 use table_answers::refuse;
 
@@ -17,22 +17,16 @@ use table_answers::refuse;
 pub fn image_of_parents(parents: &[u32], image: &mut [u8]) -> Answer
     ensures { λ r. ⌜ cameTo r (now (image .exit)) ≡ imageOfParents (now (parents .entry)) (now (image .entry)) ⌝ }
 {
-    let nodes = parents.len();
-    if nodes < 1 {
-        return refuse(WRONG_SIZE, 0);
+    let verdict = parents_refusal(parents);
+    match verdict {
+        Verdict::Refused(refusal) => refuse(refusal.code, refusal.place),
+        Verdict::Passed => {
+            let layout = layout_of(parents.len(), count_runs(parents));
+            if image.len() < 512 * layout.blocks as usize {
+                return refuse(NO_ROOM, 0);
+            }
+            write_image(image, parents, layout);
+            done(layout.nodes, layout.runs)
+        }
     }
-    if MOST_NODES < nodes {
-        return refuse(WRONG_SIZE, 0);
-    }
-    let bad = bad_entry(parents);
-    if bad != 0 {
-        return refuse(NOT_PARENTS, bad as u32);
-    }
-    let marks = seal_r1_bits::count_marks(parents);
-    let blocks = image_layout::blocks_needed(nodes, marks);
-    if image.len() < 512 * blocks {
-        return refuse(NO_ROOM, 0);
-    }
-    write_image(image, parents, marks, blocks);
-    done(nodes as u32, marks as u32)
 }

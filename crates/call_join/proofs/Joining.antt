@@ -11,16 +11,16 @@ use Rattle.meaning.specs.Parents.{IsParents, badEntry}
 use Rattle.meaning.specs.Strings.{stringOf}
 use Rattle.meaning.specs.Bytes.{bitsFrom, bytesFor, packed}
 use Rattle.meaning.specs.declared.Answer.{Answer}
-use Rattle.meaning.specs.Answers.{Row, _at_when_, Outcome, refusedWith, counts, cameTo, settle, written, tooShort}
-use Rattle.meaning.specs.Calls.{joinPack}
-use Rattle.theory.proofs.Settled.{settle-here, settle-on, settle-none}
+use Rattle.meaning.specs.Answers.{Row, _at_when_, Outcome, refusedWith, counts, cameTo, firstHolding, settle, written, tooShort}
+use Rattle.meaning.specs.Tests.{packRows}
+use Rattle.calls.specs.Calls.{joinPack}
+use Rattle.theory.proofs.Settled.{settle-here, settle-on, settle-none, settle-refused, settle-passed}
 use Rattle.theory.proofs.Forms.{string-size}
 use Rattle.theory.proofs.Packing.{bits-length, packed-length}
 use Rattle.bits_append.specs.Appended.{appended}
-use Rattle.pack_check.specs.declared.Held.the-variants.{Trees, Refused}
-use Rattle.pack_check.specs.Rows.{packRows, firstOf}
-use Rattle.pack_check.proofs.Rows.{settle-refused, none-first, settle-past}
-use Rattle.table_sizes.specs.ToJoin.{wrongSizes, Sized, ToldToJoin}
+use Rattle.meaning.specs.declared.Refusal.{Refusal}
+use Rattle.meaning.specs.declared.Verdict.the-variants.{Passed, Refused}
+use Rattle.table_sizes.specs.ToJoin.{JoinSized, JoinSizes}
 use Rattle.table_sizes.proofs.ToJoin.{none-wrong, told-wrong}
 
 module _ (pack : List ℕ) (L k : ℕ) (ps : List ℕ) where
@@ -30,23 +30,23 @@ module _ (pack : List ℕ) (L k : ℕ) (ps : List ℕ) where
   abbrev rest : List Row
   rest = 3 at badEntry ps when ltb 0 (badEntry ps) ∷ 1 at 0 when tooShort joined pack ∷ []
 
-  pub join-wrong : {r : Bool} → ToldToJoin r (length pack) L k (length ps) → r ≡ true → cameTo (refusedWith 2 0) pack ≡ joinPack pack L k ps
-  unfolding joinPack wrongSizes
+  pub join-wrong : {r : Bool} → JoinSizes r (length pack) L k (length ps) → r ≡ true → cameTo (refusedWith 2 0) pack ≡ joinPack pack L k ps
+  unfolding joinPack
   join-wrong t e = sym (settle-here _ _ _ _ _ (told-wrong (length pack) L k (length ps) t e))
 
-  module _ (s : Sized (length pack) L k (length ps)) where
-    -- the rows behind the sizes
-    behind : {o : Outcome (List ℕ)} → settle pack (packRows pack L k ++ rest) (counts (L + (2 * length ps + 1)) (k + 1)) (written joined pack) ≡ o → o ≡ joinPack pack L k ps
-    unfolding joinPack packRows wrongSizes
-    behind q = sym (settle-on _ _ _ _ _ (none-wrong (length pack) L k (length ps) s) ∙ q)
+  module _ (s : JoinSized (length pack) L k (length ps)) where
+    -- the rows after the sizes
+    sizes-right : {o : Outcome (List ℕ)} → settle pack (packRows pack L k ++ rest) (counts (L + (2 * length ps + 1)) (k + 1)) (written joined pack) ≡ o → o ≡ joinPack pack L k ps
+    unfolding joinPack
+    sizes-right q = sym (settle-on _ _ _ _ _ (none-wrong (length pack) L k (length ps) s) ∙ q)
 
-    pub join-refused : {c p : ℕ} → Refused c p ≡ firstOf (packRows pack L k) → cameTo (refusedWith c p) pack ≡ joinPack pack L k ps
-    join-refused e = behind (settle-refused pack rest (counts (L + (2 * length ps + 1)) (k + 1)) (written joined pack) (packRows pack L k) e)
+    pub join-refused : {r : Refusal} → Refused r ≡ firstHolding (packRows pack L k) → cameTo (refusedWith (r .code) (r .place)) pack ≡ joinPack pack L k ps
+    join-refused e = sizes-right (settle-refused pack _ _ rest (packRows pack L k) e)
 
-    module _ (held : Trees ≡ firstOf (packRows pack L k)) where
+    module _ (held : Passed ≡ firstHolding (packRows pack L k)) where
       -- the rows of the parent list and of the room
       last : {o : Outcome (List ℕ)} → settle pack rest (counts (L + (2 * length ps + 1)) (k + 1)) (written joined pack) ≡ o → o ≡ joinPack pack L k ps
-      last q = behind (settle-past pack rest (counts (L + (2 * length ps + 1)) (k + 1)) (written joined pack) (packRows pack L k) (none-first (packRows pack L k) held) ∙ q)
+      last q = sizes-right (settle-passed pack _ _ rest (packRows pack L k) held ∙ q)
 
       pub join-entry : {r : ℕ} → r ≡ badEntry ps → (r ≡ 0 → ⊥) → cameTo (refusedWith 3 r) pack ≡ joinPack pack L k ps
       join-entry f d = ap (λ p. cameTo (refusedWith 3 p) pack) f ∙ last (settle-here _ _ _ _ _ (lt-ltb 0 (badEntry ps) (omega arith)))

@@ -1,30 +1,30 @@
 // Packs joined.
 ghost use mathlib.Core.Path.{_≡_};
 ghost use Rattle.meaning.specs.Answers.{cameTo};
-ghost use Rattle.meaning.specs.Calls.{joinPack};
+ghost use Rattle.calls.specs.Calls.{joinPack};
 use meaning::Answer;
 use meaning::NO_ROOM;
 use meaning::NOT_PARENTS;
+use meaning::Verdict;
 use meaning::WRONG_SIZE;
-use pack_check::Held;
-use pack_check::holds_trees;
+use pack_check::check_pack;
 use parents_check::bad_entry;
 use string_write::write_string;
 use table_answers::done;
 use table_answers::refuse;
-use table_sizes::wrong_to_join;
+use table_sizes::join_sizes_wrong;
 
 // Adds a tree to the pack that the first bits of a lent buffer hold.
 pub fn join(pack: &mut [u8], bits: usize, trees: usize, parents: &[u32]) -> Answer
     ensures { λ r. ⌜ cameTo r (now (pack .exit)) ≡ joinPack (now (pack .entry)) bits trees (now (parents .entry)) ⌝ }
 {
-    if wrong_to_join(pack.len(), bits, trees, parents.len()) {
+    if join_sizes_wrong(pack.len(), bits, trees, parents.len()) {
         return refuse(WRONG_SIZE, 0);
     }
-    let held = holds_trees(pack, bits, trees);
+    let held = check_pack(pack, bits, trees);
     match held {
-        Held::Refused { code, place } => refuse(code, place),
-        Held::Trees => {
+        Verdict::Refused(refusal) => refuse(refusal.code, refusal.place),
+        Verdict::Passed => {
             let bad = bad_entry(parents);
             if bad != 0 {
                 return refuse(NOT_PARENTS, bad as u32);

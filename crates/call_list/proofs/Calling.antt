@@ -8,13 +8,14 @@ use borrow.Author.Tests.{lt-ltb, le-ltb, le-leb, lt-leb}
 use lib.Dec.{ltb, leb}
 use lib.ListN.{length}
 use Rattle.meaning.specs.declared.Answer.{Answer}
+use Rattle.meaning.specs.declared.Refusal.{Refusal}
 use Rattle.meaning.specs.Answers.{Row, _at_when_, refusedWith, counts, cameTo, settle, written, tooShort}
 use Rattle.meaning.specs.Image.{parentsIn}
 use Rattle.meaning.specs.Questions.{isNode}
 use Rattle.meaning.specs.Listing.{listing, deep}
-use Rattle.meaning.specs.Calls.{listImage}
+use Rattle.calls.specs.Calls.{listImage}
 use Rattle.theory.proofs.Settled.{settle-here, settle-on, settle-none}
-use Rattle.image_found.specs.declared.Image.{Image}
+use Rattle.image_layout.specs.declared.Layout.{Layout}
 use Rattle.image_found.specs.declared.Checked.{Checked}
 use Rattle.image_found.specs.declared.Checked.the-variants.{Sound, Refused}
 use Rattle.image_found.specs.Checked.{checked}
@@ -82,10 +83,10 @@ module _ (bytes : List ℕ) (x : ℕ) (out : List ℕ) where
   by-check c e =
       rows-checked out (first ∷ second ∷ third ∷ []) counted after bytes false refl ∙ ap (comesTo out (first ∷ second ∷ third ∷ []) counted after) e
 
-  pub list-refused : (code place : ℕ) → checked bytes ≡ Refused code place → cameTo (refusedWith code place) out ≡ listImage bytes x out
-  list-refused code place e = sym (by-check (Refused code place) e)
+  pub list-refused : (r : Refusal) → checked bytes ≡ Refused r → cameTo (refusedWith (r .code) (r .place)) out ≡ listImage bytes x out
+  list-refused r e = sym (by-check (Refused r) e)
 
-  module _ (i : Image) (e : checked bytes ≡ Sound i) where
+  module _ (i : Layout) (e : checked bytes ≡ Sound i) where
     no-node : not (isNode (length (parentsIn bytes)) x) ≡ true → cameTo (refusedWith 8 1) out ≡ listImage bytes x out
     no-node h = sym (by-check (Sound i) e ∙ settle-here out counted after first (second ∷ third ∷ []) h)
 

@@ -1,10 +1,10 @@
 // The depth-first listing of an image.
 ghost use mathlib.Core.Path.{_≡_};
 ghost use Rattle.meaning.specs.Answers.{cameTo};
-ghost use Rattle.meaning.specs.Calls.{listImage};
+ghost use Rattle.calls.specs.Calls.{listImage};
 use check_image::check;
 use image_found::Checked;
-use image_found::refusal_of;
+use image_found::answer_of;
 use list_measure::Measured;
 use list_measure::measure;
 use list_write::list_node;
@@ -21,7 +21,7 @@ pub fn list(b: &[u8], node: u32, out: &mut [u32]) -> Answer
 {
     let found = check(b);
     let Checked::Sound(image) = found else {
-        return refusal_of(found);
+        return answer_of(found);
     };
     if node == 0 {
         return refuse(NOT_ALLOWED, 1);
@@ -37,7 +37,7 @@ pub fn list(b: &[u8], node: u32, out: &mut [u32]) -> Answer
             if out.len() < 2 * nodes as usize {
                 return refuse(NO_ROOM, 0);
             }
-            list_node(b, image.zeros as usize, node, 64, &mut cursors, out);
+            list_node(b, image.r0_block as usize, node, 64, &mut cursors, out);
             done(nodes, 0)
         }
     }

@@ -1,10 +1,10 @@
 // The parent list of a sealed tree, read back from its image.
 ghost use mathlib.Core.Path.{_≡_};
 ghost use Rattle.meaning.specs.Answers.{cameTo};
-ghost use Rattle.meaning.specs.Calls.{parentsOfImage};
+ghost use Rattle.calls.specs.Calls.{parentsOfImage};
 use check_image::check;
 use image_found::Checked;
-use image_found::refusal_of;
+use image_found::answer_of;
 use meaning::Answer;
 use meaning::NO_ROOM;
 use table_answers::done;
@@ -17,12 +17,12 @@ pub fn parents_of_image(b: &[u8], out: &mut [u32]) -> Answer
 {
     let found = check(b);
     let Checked::Sound(image) = found else {
-        return refusal_of(found);
+        return answer_of(found);
     };
     let nodes = image.nodes as usize;
     if out.len() < nodes {
         return refuse(NO_ROOM, 0);
     }
-    write_parents(b, image.zeros as usize, nodes, out);
+    write_parents(b, image.r0_block as usize, nodes, out);
     done(image.nodes, 0)
 }

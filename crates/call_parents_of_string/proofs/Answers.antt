@@ -11,7 +11,7 @@ use Rattle.meaning.specs.Strings.{ones, parentsOf}
 use Rattle.meaning.specs.Bytes.{bitsFrom, bytesFor, leftover}
 use Rattle.meaning.specs.Scan.{one, place}
 use Rattle.meaning.specs.Answers.{refusedWith, counts, cameTo, written}
-use Rattle.meaning.specs.Calls.{parentsOfString}
+use Rattle.calls.specs.Calls.{parentsOfString}
 use Rattle.theory.proofs.Settled.{or-first, or-second, or-neither, unequal, equal, settle-here, settle-on, settle-none}
 use Rattle.theory.proofs.Forms.{length-before}
 

@@ -1,7 +1,7 @@
 // Parents from a tree string.
 ghost use mathlib.Core.Path.{_≡_};
 ghost use Rattle.meaning.specs.Answers.{cameTo};
-ghost use Rattle.meaning.specs.Calls.{parentsOfString};
+ghost use Rattle.calls.specs.Calls.{parentsOfString};
 use meaning::Answer;
 use meaning::LEFTOVER_SET;
 use meaning::MOST_BITS;

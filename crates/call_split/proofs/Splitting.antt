@@ -10,15 +10,16 @@ use lib.Seq.{sets, sets-eq, take-at}
 use Rattle.meaning.specs.Bytes.{bitsFrom}
 use Rattle.meaning.specs.Packs.{sizes, starts}
 use Rattle.meaning.specs.declared.Answer.{Answer}
-use Rattle.meaning.specs.Answers.{Row, _at_when_, Outcome, refusedWith, counts, cameTo, settle, written, tooShort}
-use Rattle.meaning.specs.Calls.{splitPack}
+use Rattle.meaning.specs.Answers.{Row, _at_when_, Outcome, refusedWith, counts, cameTo, firstHolding, settle, written, tooShort}
+use Rattle.meaning.specs.Tests.{packRows}
+use Rattle.calls.specs.Calls.{splitPack}
 use Rattle.theory.specs.Rows.{NoneHolds}
-use Rattle.theory.proofs.Settled.{or-first, or-second, or-neither, settle-here, settle-on, settle-none}
+use Rattle.theory.proofs.Settled.{or-first, or-second, or-neither, settle-here, settle-on, settle-none, settle-refused, settle-passed, none-first}
 use Rattle.pack_scan.proofs.Parts.{starts-length}
-use Rattle.pack_check.specs.declared.Held.the-variants.{Trees, Refused}
-use Rattle.pack_check.specs.Rows.{packRows, firstOf}
-use Rattle.pack_check.proofs.Rows.{settle-refused, none-first, settle-past, held-count}
-use Rattle.table_sizes.specs.ToSplit.{wrongSizes, Sized, ToldToSplit}
+use Rattle.meaning.specs.declared.Refusal.{Refusal}
+use Rattle.meaning.specs.declared.Verdict.the-variants.{Passed, Refused}
+use Rattle.pack_check.proofs.Rows.{held-count}
+use Rattle.table_sizes.specs.ToSplit.{SplitSized, SplitSizes}
 use Rattle.table_sizes.proofs.ToSplit.{none-wrong, told-wrong}
 
 -- entries that were all noted
@@ -47,20 +48,20 @@ module _ (bytes : List ℕ) (L k : ℕ) (firsts sizesOut : List ℕ) where
   abbrev room : List Row
   room = 1 at 0 when (shortFirsts || shortSizes) ∷ []
 
-  pub split-wrong : {r : Bool} → ToldToSplit r (length bytes) L k → r ≡ true → cameTo (refusedWith 2 0) lent ≡ splitPack bytes L k firsts sizesOut
-  unfolding splitPack wrongSizes
+  pub split-wrong : {r : Bool} → SplitSizes r (length bytes) L k → r ≡ true → cameTo (refusedWith 2 0) lent ≡ splitPack bytes L k firsts sizesOut
+  unfolding splitPack
   split-wrong t e = sym (settle-here _ _ _ _ _ (told-wrong (length bytes) L k t e))
 
-  module _ (z : Sized (length bytes) L k) where
-    -- the rows behind the sizes
-    behind : {o : Outcome (List ℕ × List ℕ)} → settle lent (packRows bytes L k ++ room) (counts L k) given ≡ o → o ≡ splitPack bytes L k firsts sizesOut
-    unfolding splitPack packRows wrongSizes
-    behind q = sym (settle-on _ _ _ _ _ (none-wrong (length bytes) L k z) ∙ q)
+  module _ (z : SplitSized (length bytes) L k) where
+    -- the rows after the sizes
+    sizes-right : {o : Outcome (List ℕ × List ℕ)} → settle lent (packRows bytes L k ++ room) (counts L k) given ≡ o → o ≡ splitPack bytes L k firsts sizesOut
+    unfolding splitPack
+    sizes-right q = sym (settle-on _ _ _ _ _ (none-wrong (length bytes) L k z) ∙ q)
 
-    pub split-refused : {c p : ℕ} → Refused c p ≡ firstOf (packRows bytes L k) → cameTo (refusedWith c p) lent ≡ splitPack bytes L k firsts sizesOut
-    split-refused e = behind (settle-refused lent room (counts L k) given (packRows bytes L k) e)
+    pub split-refused : {r : Refusal} → Refused r ≡ firstHolding (packRows bytes L k) → cameTo (refusedWith (r .code) (r .place)) lent ≡ splitPack bytes L k firsts sizesOut
+    split-refused e = sizes-right (settle-refused lent (counts L k) given room (packRows bytes L k) e)
 
-    module _ (held : Trees ≡ firstOf (packRows bytes L k)) where
+    module _ (held : Passed ≡ firstHolding (packRows bytes L k)) where
       none : NoneHolds (packRows bytes L k)
       none = none-first (packRows bytes L k) held
 
@@ -72,7 +73,7 @@ module _ (bytes : List ℕ) (L k : ℕ) (firsts sizesOut : List ℕ) where
       places = starts-length (sizes (bitsFrom bytes 0 L)) 0 ∙ count
 
       last : {o : Outcome (List ℕ × List ℕ)} → settle lent room (counts L k) given ≡ o → o ≡ splitPack bytes L k firsts sizesOut
-      last q = behind (settle-past lent room (counts L k) given (packRows bytes L k) none ∙ q)
+      last q = sizes-right (settle-passed lent (counts L k) given room (packRows bytes L k) held ∙ q)
 
       pub split-firsts : length firsts < k → cameTo (refusedWith 1 0) lent ≡ splitPack bytes L k firsts sizesOut
       split-firsts l = last (settle-here _ _ _ _ _ (or-first shortFirsts shortSizes (lt-ltb (length firsts) (length (starts (bitsFrom bytes 0 L))) (omega (arith, places)))))

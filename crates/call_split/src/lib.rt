@@ -1,17 +1,17 @@
 // Packs split.
 ghost use mathlib.Core.Path.{_≡_};
 ghost use Rattle.meaning.specs.Answers.{cameTo};
-ghost use Rattle.meaning.specs.Calls.{splitPack};
+ghost use Rattle.calls.specs.Calls.{splitPack};
 use meaning::Answer;
 use meaning::MOST_TREES;
 use meaning::NO_ROOM;
+use meaning::Verdict;
 use meaning::WRONG_SIZE;
-use noting::hand_over;
-use pack_check::Held;
-use pack_check::trees_held;
+use pack_check::check_and_note;
+use pack_scan::hand_over;
 use table_answers::done;
 use table_answers::refuse;
-use table_sizes::wrong_to_split;
+use table_sizes::split_sizes_wrong;
 
 // Splits a pack: the first bit and the node count of each tree.
 pub fn split(
@@ -23,16 +23,16 @@ pub fn split(
 ) -> Answer
     ensures { λ r. ⌜ cameTo r (now (firsts .exit), now (counts .exit)) ≡ splitPack (now (bytes .entry)) bits trees (now (firsts .entry)) (now (counts .entry)) ⌝ }
 {
-    if wrong_to_split(bytes.len(), bits, trees) {
+    if split_sizes_wrong(bytes.len(), bits, trees) {
         return refuse(WRONG_SIZE, 0);
     }
     // Nothing is written before everything is known to succeed.
     let mut found_firsts = [0u32; MOST_TREES];
     let mut found_counts = [0u32; MOST_TREES];
-    let held = trees_held(bytes, bits, trees, &mut found_firsts, &mut found_counts);
+    let held = check_and_note(bytes, bits, trees, &mut found_firsts, &mut found_counts);
     match held {
-        Held::Refused { code, place } => refuse(code, place),
-        Held::Trees => {
+        Verdict::Refused(refusal) => refuse(refusal.code, refusal.place),
+        Verdict::Passed => {
             if firsts.len() < trees {
                 return refuse(NO_ROOM, 0);
             }

@@ -5,7 +5,7 @@ use Prim.Native.Nat.{ℕ, _+_, _*_, _/_, _%_, _≤_, _<_}
 use native.Mathlib.Omega.{arith}
 use lib.ListN.{length, getD}
 use Rattle.theory.specs.Layout.{wordAt}
-use Rattle.theory.specs.Stages.{Header, nodesOf, marksOf, blocksNeeded}
+use Rattle.theory.specs.Stages.{Header, nodesOf, runsOf, blocksNeeded}
 use Rattle.image_string.specs.Parts.{ZeroBytes}
 use Rattle.image_string.proofs.Zeros.{word-bytes, zero-word}
 
@@ -20,14 +20,14 @@ words-zero bytes z i h g =
 
 -- ---- the header
 
-module _ (bytes : List ℕ) (blocks n m : ℕ) (size : length bytes ≡ 512 * blocks) (nodes : n ≡ nodesOf bytes) (marks : m ≡ marksOf bytes) where
+module _ (bytes : List ℕ) (blocks n m : ℕ) (size : length bytes ≡ 512 * blocks) (nodes : n ≡ nodesOf bytes) (marks : m ≡ runsOf bytes) where
   pub header-all : wordAt bytes 0 ≡ 1 → 1 ≤ n → n ≤ 65535 → 1 ≤ m → m ≤ n → wordAt bytes 12 ≡ blocks → blocksNeeded n m ≡ blocks → ZeroBytes bytes 16 504 → Header bytes
-  header-all version some most marksSome marksMost count needed z = record {
+  header-all version some most runsSome runsMost count needed z = record {
     version = version;
     some = omega arith;
     most = omega arith;
-    marksSome = omega arith;
-    marksMost = omega arith;
+    runsSome = omega arith;
+    runsMost = omega arith;
     blocks = omega arith;
     needed = let e : length bytes / 512 ≡ blocks = omega arith in e ∙ sym needed ∙ ap₂ (λ a b. blocksNeeded a b) nodes marks;
     reserved = zero-words bytes z;

@@ -3,9 +3,9 @@ ghost use mathlib.Core.Path.{_≡_};
 ghost use Prim.Native.Nat.{_*_, _≤_};
 ghost use lib.ListN.{length};
 ghost use Rattle.theory.specs.Stages.{Header};
-ghost use Rattle.image_string.specs.Says.{Says};
+ghost use Rattle.image_string.specs.Decides.{Decides};
 use image_layout::blocks_needed;
-use image_string::zeros_between;
+use image_string::all_zero;
 use image_words::word;
 
 // Is block 0 right: version, n, m, the number of blocks, and zeros behind them?
@@ -13,7 +13,7 @@ pub fn header_right(b: &[u8], blocks: usize) -> bool
     requires { ⌜ length (now b) ≡ 512 * blocks ⌝ }
     requires { ⌜ 5 ≤ blocks ⌝ }
     requires { ⌜ blocks ≤ 53 ⌝ }
-    ensures { λ r. ⌜ Says r (Header (now (b .entry))) ⌝ }
+    ensures { λ r. ⌜ Decides r (Header (now (b .entry))) ⌝ }
 {
     let n = word(b, 4) as usize;
     let m = word(b, 8) as usize;
@@ -39,5 +39,5 @@ pub fn header_right(b: &[u8], blocks: usize) -> bool
         return false;
     }
     // words 4 to 125 are reserved
-    zeros_between(b, 16, 504)
+    all_zero(b, 16, 504)
 }

@@ -1,45 +1,54 @@
 // The whole check of an image.
 ghost use mathlib.Core.Path.{_≡_};
-ghost use Rattle.meaning.specs.Answers.{cameTo};
-ghost use Rattle.meaning.specs.Calls.{checkImage};
-ghost use Rattle.image_found.specs.Checked.{checked};
+ghost use Prim.Native.Nat.{_≤_};
+ghost use lib.ListN.{length};
+ghost use Rattle.theory.specs.Stages.{Header};
+ghost use Rattle.image_found.specs.Checked.{checked, layoutIn};
+ghost use Rattle.image_found.specs.declared.Checked.the-variants.{Refused};
 use check_stages::stages_pass;
 use check_sums::wrong_block;
 use image_found::Checked;
-use image_found::refusal_of;
-use image_layout::image_in;
-use meaning::Answer;
+use image_layout::Layout;
+use image_layout::layout_of;
+use image_words::word;
 use meaning::NOT_IMAGE;
+use meaning::Refusal;
 use meaning::WRONG_SIZE;
 use meaning::WRONG_SUMS;
-use table_answers::done;
-use table_sizes::wrong_to_check;
+use table_sizes::image_size_wrong;
+
+fn refused(code: u32, place: u32) -> Checked
+    ensures { λ r. ⌜ r ≡ Refused (record { code = code; place = place }) ⌝ }
+{
+    Checked::Refused(Refusal {
+        code: code,
+        place: place,
+    })
+}
+
+// The layout that a right header gives.
+fn layout_in(b: &[u8]) -> Layout
+    requires { ⌜ 512 ≤ length (now b) ⌝ }
+    requires { ⌜ Header (now b) ⌝ }
+    ensures { λ r. ⌜ r ≡ layoutIn (now (b .entry)) ⌝ }
+{
+    layout_of(word(b, 4) as usize, word(b, 8) as usize)
+}
 
 // The whole check, cheapest first: size, blocks, then the header, the strings and their samples.
 pub fn check(b: &[u8]) -> Checked
     ensures { λ r. ⌜ r ≡ checked (now (b .entry)) ⌝ }
 {
-    if wrong_to_check(b.len()) {
-        return Checked::Refused(WRONG_SIZE, 0);
+    if image_size_wrong(b.len()) {
+        return refused(WRONG_SIZE, 0);
     }
     let blocks = b.len() / 512;
     let wrong = wrong_block(b, blocks);
     if wrong < blocks {
-        return Checked::Refused(WRONG_SUMS, wrong as u32);
+        return refused(WRONG_SUMS, wrong as u32);
     }
     if !stages_pass(b, blocks) {
-        return Checked::Refused(NOT_IMAGE, 0);
+        return refused(NOT_IMAGE, 0);
     }
-    Checked::Sound(image_in(b, blocks))
-}
-
-// The public check: n and m of a sound image, or the refusal.
-pub fn check_image(b: &[u8]) -> Answer
-    ensures { λ r. ⌜ cameTo r tt ≡ checkImage (now (b .entry)) ⌝ }
-{
-    let found = check(b);
-    let Checked::Sound(image) = found else {
-        return refusal_of(found);
-    };
-    done(image.nodes, image.marks)
+    Checked::Sound(layout_in(b))
 }

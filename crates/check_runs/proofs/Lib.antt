@@ -1,1 +1,2 @@
+pub mod WordsStepping
 pub mod Stepping

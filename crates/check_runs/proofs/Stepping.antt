@@ -11,10 +11,10 @@ use Rattle.theory.specs.Layout.{bitPlace}
 use Rattle.theory.specs.Stages.{InStep}
 use Rattle.theory.proofs.Bits.{I≢O}
 use Rattle.theory.proofs.TreeImages.{length-stringIn}
-use Rattle.bit.proofs.Values.{is-O, is-I}
+use Rattle.bits_byte.proofs.Values.{is-O, is-I}
 use Rattle.image_string.specs.Parts.{onesTo}
 use Rattle.image_string.proofs.Ones.{onesTo-take, onesTo-mono, onesTo-block, string-at}
-use Rattle.byte_steps.specs.Steps.{StepAt}
+use Rattle.check_runs_words.specs.Steps.{StepAt}
 use Rattle.check_samples.specs.Samples.{Placed}
 use Rattle.check_runs_samples.specs.Ahead.{Ahead}
 use Rattle.check_runs.specs.Steps.{StepWithin}

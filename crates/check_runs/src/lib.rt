@@ -1,18 +1,48 @@
 // Are the runs of the two strings of an image in step?
 ghost use mathlib.Core.Path.{_≡_};
-ghost use Prim.Native.Nat.{_+_, _*_, _≤_};
+ghost use Prim.Native.Nat.{_+_, _/_, _≤_, _*_};
 ghost use lib.ListN.{length};
+ghost use Rattle.image_string.specs.Decides.{Decides};
+ghost use Rattle.check_runs_words.specs.Steps.{StepAt};
 ghost use Rattle.meaning.specs.Image.{stringIn};
 ghost use Rattle.theory.specs.Layout.{wordAt};
-ghost use Rattle.theory.specs.Stages.{InStep, zerosFrom, samplesFrom, blocksOfSamples};
-ghost use Rattle.image_string.specs.Says.{Says};
+ghost use Rattle.theory.specs.Stages.{InStep, r0Block, r1Samples, blocksOfSamples};
 ghost use Rattle.image_string.specs.Parts.{Counted, onesTo};
 ghost use Rattle.check_samples.specs.Samples.{Placed};
 ghost use Rattle.check_runs.specs.Steps.{StepWithin};
+use bits_count::ones_without;
 use check_runs_samples::samples_ahead;
+use check_runs_words::bytes_in_step;
+use check_runs_words::word_in_step;
 use image_string::string_bit;
 use image_words::word;
-use strides::words_in_step;
+
+// Of n bits of R1 from byte `at1` on, which `ones1` ones come before, and n of R0 from `at0` on, which `ones0` come before: is R1 in step with R0 at each of them? Eight bytes at a time.
+fn words_in_step(b: &[u8], at1: usize, at0: usize, n: usize, ones1: usize, ones0: usize) -> bool
+    requires { ⌜ at1 ≤ 38000 ⌝ }
+    requires { ⌜ at0 ≤ 38000 ⌝ }
+    requires { ⌜ n ≤ 4000 ⌝ }
+    requires { ⌜ at1 + (n + 7) / 8 ≤ length (now b) ⌝ }
+    requires { ⌜ at0 + (n + 7) / 8 ≤ length (now b) ⌝ }
+    requires { ⌜ ones1 ≤ 65000 ⌝ }
+    requires { ⌜ ones0 ≤ 65000 ⌝ }
+    ensures { λ r. ⌜ Decides r (StepAt (now (b .entry)) at1 at0 n ones1 ones0) ⌝ }
+{
+    let mut before1 = ones1;
+    let mut before0 = ones0;
+    let mut i: usize = 0;
+    while i + 8 <= n / 8 {
+        let more = ones_without(b, at1 + i, at0 + i) as usize;
+        if !word_in_step(b, at1 + i, at0 + i, before1, before0, more) {
+            return false;
+        }
+        // the ones that both have are left out of both counts
+        before1 += more;
+        before0 += ones_without(b, at0 + i, at1 + i) as usize;
+        i += 8;
+    }
+    bytes_in_step(b, at1 + i, at0 + i, n - 8 * i, before1, before0)
+}
 
 // Is R1 in step with R0 in the first n bits of their blocks number j?
 fn block_in_step(b: &[u8], zeros: usize, j: usize, n: usize) -> bool
@@ -23,7 +53,7 @@ fn block_in_step(b: &[u8], zeros: usize, j: usize, n: usize) -> bool
     requires { ⌜ 512 * (zeros + j + 1) ≤ length (now b) ⌝ }
     requires { ⌜ wordAt (now b) (512 * (1 + j)) ≡ onesTo (now b) 1 (4000 * j) ⌝ }
     requires { ⌜ wordAt (now b) (512 * (zeros + j)) ≡ onesTo (now b) zeros (4000 * j) ⌝ }
-    ensures { λ r. ⌜ Says r (StepWithin (now (b .entry)) zeros (4000 * j) (4000 * j + n)) ⌝ }
+    ensures { λ r. ⌜ Decides r (StepWithin (now (b .entry)) zeros (4000 * j) (4000 * j + n)) ⌝ }
 {
     let at1 = 512 * (1 + j);
     let at0 = 512 * (zeros + j);
@@ -60,7 +90,7 @@ fn full_block_in_step(
     requires { ⌜ wordAt (now b) (512 * (zeros + j)) ≡ onesTo (now b) zeros (4000 * j) ⌝ }
     requires { ⌜ Placed (now b) samples1 1 m ⌝ }
     requires { ⌜ Placed (now b) samples0 zeros m ⌝ }
-    ensures { λ r. ⌜ Says r (StepWithin (now (b .entry)) zeros (4000 * j) (4000 * j + 4000)) ⌝ }
+    ensures { λ r. ⌜ Decides r (StepWithin (now (b .entry)) zeros (4000 * j) (4000 * j + 4000)) ⌝ }
 {
     let end = word(b, 512 * (1 + j + 1));
     // then R1 has no more behind the block than R0 before it
@@ -83,8 +113,8 @@ fn full_block_in_step(
 pub fn in_step(b: &[u8], zeros: usize, n: usize, m: usize, samples1: usize, samples0: usize) -> bool
     requires { ⌜ 1 ≤ n ⌝ }
     requires { ⌜ n ≤ 65535 ⌝ }
-    requires { ⌜ zeros ≡ zerosFrom n ⌝ }
-    requires { ⌜ 512 * samplesFrom n ≤ length (now b) ⌝ }
+    requires { ⌜ zeros ≡ r0Block n ⌝ }
+    requires { ⌜ 512 * r1Samples n ≤ length (now b) ⌝ }
     requires { ⌜ Counted (now b) 1 n ⌝ }
     requires { ⌜ Counted (now b) zeros (n + 1) ⌝ }
     requires { ⌜ m ≤ 65536 ⌝ }
@@ -94,7 +124,7 @@ pub fn in_step(b: &[u8], zeros: usize, n: usize, m: usize, samples1: usize, samp
     requires { ⌜ 512 * (samples0 + blocksOfSamples m) ≤ length (now b) ⌝ }
     requires { ⌜ Placed (now b) samples1 1 m ⌝ }
     requires { ⌜ Placed (now b) samples0 zeros m ⌝ }
-    ensures { λ r. ⌜ Says r (InStep (stringIn (now (b .entry)) 1 0 n) (stringIn (now (b .entry)) zeros 0 (n + 1))) ⌝ }
+    ensures { λ r. ⌜ Decides r (InStep (stringIn (now (b .entry)) 1 0 n) (stringIn (now (b .entry)) zeros 0 (n + 1))) ⌝ }
 {
     if string_bit(b, 1, 0) == 0 {
         return false;

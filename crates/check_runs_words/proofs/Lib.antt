@@ -1,1 +1,2 @@
+pub mod BytesStepping
 pub mod Stepping

@@ -9,7 +9,7 @@ use Rattle.meaning.specs.Bytes.{bitsFrom}
 use Rattle.theory.proofs.Packing.{bits-length}
 use Rattle.bits_count.specs.Without.{without}
 use Rattle.bits_count.proofs.Runs.{bits-take}
-use Rattle.byte_steps.specs.Steps.{StepAt}
+use Rattle.check_runs_words.specs.Steps.{StepAt}
 
 -- R1 gains no more than its ones where R0 has none
 gain : (xs ys : List Bit) (p : ℕ) → length xs ≡ length ys → ones (take p xs) ≤ ones (take p ys) + ones (without xs ys)

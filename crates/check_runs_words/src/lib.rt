@@ -1,13 +1,83 @@
 // Two strings in step, of eight bytes, passed over by the ones in them where those tell enough.
 ghost use mathlib.Core.Path.{_≡_};
-ghost use Prim.Native.Nat.{_+_, _*_, _≤_};
+ghost use Prim.Native.Nat.{_+_, _*_, _/_, _≤_};
 ghost use lib.ListN.{length};
 ghost use Rattle.meaning.specs.Strings.{ones};
 ghost use Rattle.meaning.specs.Bytes.{bitsFrom};
-ghost use Rattle.image_string.specs.Says.{Says};
-ghost use Rattle.byte_steps.specs.Steps.{StepAt};
+ghost use Rattle.image_string.specs.Decides.{Decides};
+ghost use Rattle.check_runs_words.specs.Steps.{StepAt};
 ghost use Rattle.bits_count.specs.Without.{without};
-use byte_steps::bytes_in_step;
+use bits_byte::bit_at;
+use bits_byte::ones_in_byte;
+
+// Of n bits of R1 from byte `at1` on, which `ones1` ones come before, and n of R0 from `at0` on, which `ones0` come before: is R1 in step with R0 at each of them? Bit by bit.
+fn bits_in_step(b: &[u8], at1: usize, at0: usize, n: usize, ones1: usize, ones0: usize) -> bool
+    requires { ⌜ at1 ≤ 40000 ⌝ }
+    requires { ⌜ at0 ≤ 40000 ⌝ }
+    requires { ⌜ n ≤ 8 ⌝ }
+    requires { ⌜ at1 + (n + 7) / 8 ≤ length (now b) ⌝ }
+    requires { ⌜ at0 + (n + 7) / 8 ≤ length (now b) ⌝ }
+    requires { ⌜ ones1 ≤ 70000 ⌝ }
+    requires { ⌜ ones0 ≤ 70000 ⌝ }
+    ensures { λ r. ⌜ Decides r (StepAt (now (b .entry)) at1 at0 n ones1 ones0) ⌝ }
+{
+    let mut before1 = ones1;
+    let mut before0 = ones0;
+    let mut i: usize = 0;
+    while i < n {
+        if before0 < before1 {
+            return false;
+        }
+        before1 += bit_at(b, 8 * at1 + i) as usize;
+        before0 += bit_at(b, 8 * at0 + i) as usize;
+        i += 1;
+    }
+    true
+}
+
+// The same of a byte, where R1 has `more` ones in it.
+fn byte_in_step(b: &[u8], at1: usize, at0: usize, ones1: usize, ones0: usize, more: usize) -> bool
+    requires { ⌜ at1 ≤ 40000 ⌝ }
+    requires { ⌜ at0 ≤ 40000 ⌝ }
+    requires { ⌜ at1 + 1 ≤ length (now b) ⌝ }
+    requires { ⌜ at0 + 1 ≤ length (now b) ⌝ }
+    requires { ⌜ ones1 ≤ 70000 ⌝ }
+    requires { ⌜ ones0 ≤ 70000 ⌝ }
+    requires { ⌜ more ≡ ones (bitsFrom (now b) (8 * at1) 8) ⌝ }
+    ensures { λ r. ⌜ Decides r (StepAt (now (b .entry)) at1 at0 8 ones1 ones0) ⌝ }
+{
+    // then R1 does not come to have more inside the byte
+    if ones1 + more <= ones0 {
+        return true;
+    }
+    bits_in_step(b, at1, at0, 8, ones1, ones0)
+}
+
+// The same of n bits, byte by byte.
+pub fn bytes_in_step(b: &[u8], at1: usize, at0: usize, n: usize, ones1: usize, ones0: usize) -> bool
+    requires { ⌜ at1 ≤ 39900 ⌝ }
+    requires { ⌜ at0 ≤ 39900 ⌝ }
+    requires { ⌜ n ≤ 64 ⌝ }
+    requires { ⌜ at1 + (n + 7) / 8 ≤ length (now b) ⌝ }
+    requires { ⌜ at0 + (n + 7) / 8 ≤ length (now b) ⌝ }
+    requires { ⌜ ones1 ≤ 69900 ⌝ }
+    requires { ⌜ ones0 ≤ 69900 ⌝ }
+    ensures { λ r. ⌜ Decides r (StepAt (now (b .entry)) at1 at0 n ones1 ones0) ⌝ }
+{
+    let mut before1 = ones1;
+    let mut before0 = ones0;
+    let mut i: usize = 0;
+    while i < n / 8 {
+        let more = ones_in_byte(b[at1 + i]) as usize;
+        if !byte_in_step(b, at1 + i, at0 + i, before1, before0, more) {
+            return false;
+        }
+        before1 += more;
+        before0 += ones_in_byte(b[at0 + i]) as usize;
+        i += 1;
+    }
+    bits_in_step(b, at1 + i, at0 + i, n - 8 * i, before1, before0)
+}
 
 // Of eight bytes of R1 from `at1` on, which `ones1` ones come before, and eight of R0 from `at0` on, which `ones0` come before: is R1 in step with R0 at each bit? R1 has `more` ones in them where R0 has none.
 pub fn word_in_step(
@@ -25,7 +95,7 @@ pub fn word_in_step(
     requires { ⌜ ones1 ≤ 69900 ⌝ }
     requires { ⌜ ones0 ≤ 69900 ⌝ }
     requires { ⌜ more ≡ ones (without (bitsFrom (now b) (8 * at1) 64) (bitsFrom (now b) (8 * at0) 64)) ⌝ }
-    ensures { λ r. ⌜ Says r (StepAt (now (b .entry)) at1 at0 64 ones1 ones0) ⌝ }
+    ensures { λ r. ⌜ Decides r (StepAt (now (b .entry)) at1 at0 64 ones1 ones0) ⌝ }
 {
     // a one that both have moves neither ahead
     if ones1 + more <= ones0 {

@@ -5,11 +5,11 @@ ghost use Rattle.meaning.specs.Strings.{ones};
 ghost use Rattle.meaning.specs.Bytes.{bitsFrom};
 ghost use Rattle.theory.specs.Layout.{wordAt};
 ghost use Rattle.theory.specs.Stages.{blocksOfSamples};
-ghost use Rattle.image_string.specs.Says.{Says};
+ghost use Rattle.image_string.specs.Decides.{Decides};
 ghost use Rattle.check_sample_table.specs.Table.{CountsBefore};
 ghost use Rattle.check_sample.specs.Words.{NamesOne, RestZero};
 use bits_count::ones_ending;
-use image_string::zeros_between;
+use image_string::all_zero;
 use image_words::word;
 
 // Of the first n bits from byte `at` on, which i bits of their string come before: does the sample at byte p name one number `nth` of them, from 1?
@@ -30,7 +30,7 @@ pub fn sample_right(
     requires { ⌜ p + 4 ≤ length (now b) ⌝ }
     requires { ⌜ at + 504 ≤ length (now b) ⌝ }
     requires { ⌜ CountsBefore (now b) at (now table) ⌝ }
-    ensures { λ r. ⌜ Says r (NamesOne (now (b .entry)) at n i nth (wordAt (now (b .entry)) p)) ⌝ }
+    ensures { λ r. ⌜ Decides r (NamesOne (now (b .entry)) at n i nth (wordAt (now (b .entry)) p)) ⌝ }
 {
     let place = word(b, p) as usize;
     if place <= i {
@@ -53,7 +53,7 @@ pub fn words_zero(b: &[u8], from: usize, m: u32) -> bool
     requires { ⌜ m ≤ 65536 ⌝ }
     requires { ⌜ from ≤ 53 ⌝ }
     requires { ⌜ 512 * (from + blocksOfSamples m) ≤ length (now b) ⌝ }
-    ensures { λ r. ⌜ Says r (RestZero (now (b .entry)) from m) ⌝ }
+    ensures { λ r. ⌜ Decides r (RestZero (now (b .entry)) from m) ⌝ }
 {
     let samples = (m as usize + 63) / 64;
     // the last block is full
@@ -61,5 +61,5 @@ pub fn words_zero(b: &[u8], from: usize, m: u32) -> bool
         return true;
     }
     let at = 512 * (from + samples / 126);
-    zeros_between(b, at + 4 * (samples % 126), at + 504)
+    all_zero(b, at + 4 * (samples % 126), at + 504)
 }

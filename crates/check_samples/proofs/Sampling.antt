@@ -19,7 +19,7 @@ use Rattle.theory.proofs.Stages.{sampled-word}
 use Rattle.image_string.specs.Parts.{Counted, onesTo}
 use Rattle.image_string.proofs.Ones.{onesTo-take, onesTo-next, onesTo-mono, onesTo-block, string-at}
 use Rattle.check_sample.specs.Words.{RestZero}
-use Rattle.piece_samples.specs.Pieces.{SampledHere, PieceSampled}
+use Rattle.check_samples.specs.Pieces.{SampledHere, PieceSampled}
 use Rattle.check_samples.specs.Samples.{SampledWithin, BlocksRight, Placed}
 
 -- ---- one sample

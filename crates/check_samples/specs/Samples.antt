@@ -6,7 +6,7 @@ use Rattle.meaning.specs.Strings.{I}
 use Rattle.meaning.specs.Bytes.{bitAt}
 use Rattle.theory.specs.Layout.{bitPlace, sampleIn}
 use Rattle.image_string.specs.Parts.{Counted, onesTo}
-use Rattle.piece_samples.specs.Pieces.{SampledHere}
+use Rattle.check_samples.specs.Pieces.{SampledHere}
 
 -- bit p, if it is one, of the string whose blocks begin at block `first`
 abbrev pub SampledAt : List ℕ → ℕ → ℕ → ℕ → Type 0

@@ -1,22 +1,65 @@
 // Are the samples of a string of an image right, and the counts of its blocks?
 ghost use mathlib.Core.Path.{_≡_};
-ghost use Prim.Native.Nat.{_+_, _*_, _≤_};
+ghost use Prim.Native.Nat.{ℕ, _+_, _*_, _≤_};
 ghost use lib.ListN.{length};
 ghost use Rattle.meaning.specs.Strings.{ones};
 ghost use Rattle.meaning.specs.Bytes.{bitsFrom};
+ghost use Rattle.theory.specs.Layout.{samplePlace, wordAt};
+ghost use Rattle.theory.specs.Stages.{blocksOfSamples, Sampled};
+ghost use Rattle.image_string.specs.Decides.{Decides};
+ghost use Rattle.check_sample_table.specs.Table.{CountsBefore};
+ghost use Rattle.check_samples.specs.Pieces.{PieceSampled};
 ghost use Rattle.meaning.specs.Image.{stringBlocks, stringIn};
-ghost use Rattle.theory.specs.Layout.{wordAt};
-ghost use Rattle.theory.specs.Stages.{Sampled, blocksOfSamples};
-ghost use Rattle.image_string.specs.Says.{Says};
 ghost use Rattle.image_string.specs.Parts.{onesTo};
-ghost use Rattle.piece_samples.specs.Pieces.{PieceSampled};
 ghost use Rattle.check_samples.specs.Samples.{SampledWithin, BlockRight, BlocksRight};
 use bits_count::ones_from;
+use check_sample::sample_right;
 use check_sample::words_zero;
 use check_sample_table::add_up;
 use check_sample_table::count_words;
 use image_words::word;
-use piece_samples::each_sampled;
+
+// Where the sample behind the one at byte p stands: the next word, over the sums of a block if those come first.
+fn next_sample(p: usize) -> usize
+    requires { ⌜ p ≤ 100000 ⌝ }
+    ensures { λ r. ⌜ ((from s : ℕ) → p ≡ samplePlace from s → r ≡ samplePlace from (s + 1)) ⌝ }
+{
+    if p % 512 == 500 { p + 12 } else { p + 4 }
+}
+
+// Of n bits from byte `at` on, which i bits and k ones of their string come before, up to `end` ones with these: are the samples right of those that have one?
+fn each_sampled(
+    b: &[u8],
+    from: usize,
+    at: usize,
+    n: usize,
+    i: usize,
+    k: usize,
+    end: usize,
+    table: &[u32; 63],
+) -> bool
+    requires { ⌜ at ≤ 39000 ⌝ }
+    requires { ⌜ n ≤ 4000 ⌝ }
+    requires { ⌜ i ≤ 65536 ⌝ }
+    requires { ⌜ k ≤ 65536 ⌝ }
+    requires { ⌜ from ≤ 53 ⌝ }
+    requires { ⌜ end ≡ k + ones (bitsFrom (now b) (8 * at) n) ⌝ }
+    requires { ⌜ at + 504 ≤ length (now b) ⌝ }
+    requires { ⌜ 512 * (from + blocksOfSamples end) ≤ length (now b) ⌝ }
+    requires { ⌜ CountsBefore (now b) at (now table) ⌝ }
+    ensures { λ r. ⌜ Decides r (PieceSampled (now (b .entry)) from at n i k) ⌝ }
+{
+    let mut s = (k + 63) / 64;
+    let mut p = 512 * (from + s / 126) + 4 * (s % 126);
+    while 64 * s < end {
+        if !sample_right(b, p, at, n, i, 64 * s + 1 - k, table) {
+            return false;
+        }
+        p = next_sample(p);
+        s += 1;
+    }
+    true
+}
 
 // Of 4,000 bits from byte `at` on, which i bits and k ones of their string come before: are there `end` ones with these, and are the samples right of those that have one? The ones before each word are counted for both.
 fn full_piece_right(b: &[u8], from: usize, at: usize, i: usize, k: usize, end: usize) -> bool
@@ -26,7 +69,7 @@ fn full_piece_right(b: &[u8], from: usize, at: usize, i: usize, k: usize, end: u
     requires { ⌜ from ≤ 53 ⌝ }
     requires { ⌜ at + 504 ≤ length (now b) ⌝ }
     requires { ⌜ 512 * (from + blocksOfSamples end) ≤ length (now b) ⌝ }
-    ensures { λ r. ⌜ Says r ((end ≡ k + ones (bitsFrom (now (b .entry)) (8 * at) 4000)) × PieceSampled (now (b .entry)) from at 4000 i k) ⌝ }
+    ensures { λ r. ⌜ Decides r ((end ≡ k + ones (bitsFrom (now (b .entry)) (8 * at) 4000)) × PieceSampled (now (b .entry)) from at 4000 i k) ⌝ }
 {
     let mut table: [u32; 63] = [0; 63];
     count_words(b, at, &mut table);
@@ -46,7 +89,7 @@ fn full_block_right(b: &[u8], from: usize, first: usize, j: usize, end: usize) -
     requires { ⌜ 512 * (first + j + 1) ≤ length (now b) ⌝ }
     requires { ⌜ 512 * (from + blocksOfSamples end) ≤ length (now b) ⌝ }
     requires { ⌜ wordAt (now b) (512 * (first + j)) ≡ onesTo (now b) first (4000 * j) ⌝ }
-    ensures { λ r. ⌜ Says r (BlockRight (now (b .entry)) from first j end) ⌝ }
+    ensures { λ r. ⌜ Decides r (BlockRight (now (b .entry)) from first j end) ⌝ }
 {
     let at = 512 * (first + j);
     full_piece_right(b, from, at + 4, 4000 * j, word(b, at) as usize, end)
@@ -60,7 +103,7 @@ pub fn full_blocks_right(b: &[u8], from: usize, m: u32, first: usize, n: usize) 
     requires { ⌜ from ≤ 53 ⌝ }
     requires { ⌜ 512 * (first + stringBlocks n) ≤ length (now b) ⌝ }
     requires { ⌜ 512 * (from + blocksOfSamples m) ≤ length (now b) ⌝ }
-    ensures { λ r. ⌜ Says r (BlocksRight (now (b .entry)) from m first n) ⌝ }
+    ensures { λ r. ⌜ Decides r (BlocksRight (now (b .entry)) from m first n) ⌝ }
 {
     if word(b, 512 * first) != 0 {
         return false;
@@ -91,7 +134,7 @@ fn piece_sampled(b: &[u8], from: usize, at: usize, n: usize, i: usize, k: usize,
     requires { ⌜ end ≡ k + ones (bitsFrom (now b) (8 * at) n) ⌝ }
     requires { ⌜ at + 504 ≤ length (now b) ⌝ }
     requires { ⌜ 512 * (from + blocksOfSamples end) ≤ length (now b) ⌝ }
-    ensures { λ r. ⌜ Says r (PieceSampled (now (b .entry)) from at n i k) ⌝ }
+    ensures { λ r. ⌜ Decides r (PieceSampled (now (b .entry)) from at n i k) ⌝ }
 {
     let mut table: [u32; 63] = [0; 63];
     count_words(b, at, &mut table);
@@ -109,7 +152,7 @@ fn block_sampled(b: &[u8], from: usize, first: usize, j: usize, n: usize, end: u
     requires { ⌜ 512 * (first + j + 1) ≤ length (now b) ⌝ }
     requires { ⌜ 512 * (from + blocksOfSamples end) ≤ length (now b) ⌝ }
     requires { ⌜ wordAt (now b) (512 * (first + j)) ≡ onesTo (now b) first (4000 * j) ⌝ }
-    ensures { λ r. ⌜ Says r (SampledWithin (now (b .entry)) from first (4000 * j) (4000 * j + n)) ⌝ }
+    ensures { λ r. ⌜ Decides r (SampledWithin (now (b .entry)) from first (4000 * j) (4000 * j + n)) ⌝ }
 {
     let at = 512 * (first + j);
     piece_sampled(b, from, at + 4, n, 4000 * j, word(b, at) as usize, end)
@@ -125,7 +168,7 @@ pub fn samples_right(b: &[u8], from: usize, m: u32, first: usize, n: usize) -> b
     requires { ⌜ 512 * (first + stringBlocks n) ≤ length (now b) ⌝ }
     requires { ⌜ 512 * (from + blocksOfSamples m) ≤ length (now b) ⌝ }
     requires { ⌜ BlocksRight (now b) from m first n ⌝ }
-    ensures { λ r. ⌜ Says r (Sampled (now (b .entry)) from m (stringIn (now (b .entry)) first 0 n)) ⌝ }
+    ensures { λ r. ⌜ Decides r (Sampled (now (b .entry)) from m (stringIn (now (b .entry)) first 0 n)) ⌝ }
 {
     let last = (n - 1) / 4000;
     if !block_sampled(b, from, first, last, n - 4000 * last, m as usize) {

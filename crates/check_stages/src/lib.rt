@@ -2,8 +2,8 @@
 ghost use mathlib.Core.Path.{_≡_};
 ghost use Prim.Native.Nat.{_+_, _*_, _≤_};
 ghost use lib.ListN.{length};
-ghost use Rattle.theory.specs.Stages.{Stages, zerosFrom, samplesFrom, blocksOfSamples};
-ghost use Rattle.image_string.specs.Says.{Says};
+ghost use Rattle.theory.specs.Stages.{Stages, r0Block, r1Samples, blocksOfSamples};
+ghost use Rattle.image_string.specs.Decides.{Decides};
 ghost use Rattle.check_stages.specs.Passes.{StringsPass};
 use check_counts::string_right;
 use check_header::header_right;
@@ -19,12 +19,12 @@ use image_words::word;
 fn strings_pass(b: &[u8], n: usize, m: u32, zeros: usize, samples1: usize, samples0: usize) -> bool
     requires { ⌜ 1 ≤ n ⌝ }
     requires { ⌜ n ≤ 65535 ⌝ }
-    requires { ⌜ zeros ≡ zerosFrom n ⌝ }
-    requires { ⌜ samples1 ≡ samplesFrom n ⌝ }
+    requires { ⌜ zeros ≡ r0Block n ⌝ }
+    requires { ⌜ samples1 ≡ r1Samples n ⌝ }
     requires { ⌜ samples0 ≡ samples1 + blocksOfSamples m ⌝ }
     requires { ⌜ 512 * (samples0 + blocksOfSamples m) ≤ length (now b) ⌝ }
     requires { ⌜ samples0 ≤ 53 ⌝ }
-    ensures { λ r. ⌜ Says r (StringsPass (now (b .entry)) n m zeros samples1 samples0) ⌝ }
+    ensures { λ r. ⌜ Decides r (StringsPass (now (b .entry)) n m zeros samples1 samples0) ⌝ }
 {
     // the counts first: what comes behind them reads those, and counts no block again
     if !full_blocks_right(b, samples1, m, 1, n) {
@@ -53,7 +53,7 @@ pub fn stages_pass(b: &[u8], blocks: usize) -> bool
     requires { ⌜ length (now b) ≡ 512 * blocks ⌝ }
     requires { ⌜ 5 ≤ blocks ⌝ }
     requires { ⌜ blocks ≤ 53 ⌝ }
-    ensures { λ r. ⌜ Says r (Stages (now (b .entry))) ⌝ }
+    ensures { λ r. ⌜ Decides r (Stages (now (b .entry))) ⌝ }
 {
     if !header_right(b, blocks) {
         return false;

@@ -9,7 +9,7 @@ use borrow.Author.Tests.{eqb-true, eq-eqb}
 use lib.Dec.{eqb}
 use lib.ListN.{length, getD, take, drop, length-drop, take-append-drop}
 use lib.Seq.{length-take-le, take-take, drop-drop}
-use Rattle.meaning.specs.Blocks.{wordBytes, words, sums, block, same, cut, blocksIn, wrongFrom, wrongBlock}
+use Rattle.meaning.specs.Blocks.{wordBytes, words, sums, sumStart, block, same, cut, blocksIn, wrongFrom, wrongBlock}
 use Rattle.theory.specs.Layout.{AreBytes, wordAt}
 use Rattle.theory.proofs.Digits.{take-bytes, drop-bytes, words-bytes, wordAt-append, wordAt-take, wordAt-drop, wordBytes-at, same-words}
 use Rattle.theory.proofs.Sealing.{same-eq, same-refl}
@@ -93,20 +93,20 @@ module _ (bytes : List ℕ) (i s t : ℕ) (room : 512 * i + 512 ≤ length bytes
 
 -- the lowest wrong block from block i on
 unfoldable pub wrongAfter : List ℕ → ℕ → ℕ → ℕ
-wrongAfter bytes blocks i = wrongFrom (cut (blocks - i) 512 (drop (512 * i) bytes)) i
+wrongAfter bytes blocks i = wrongFrom sumStart (cut (blocks - i) 512 (drop (512 * i) bytes)) i
 
 module _ (bytes : List ℕ) (blocks : ℕ) where
   pub wrong-all : length bytes ≡ 512 * blocks → wrongAfter bytes blocks 0 ≡ wrongBlock bytes
   unfolding wrongAfter wrongBlock
-  wrong-all h = ap (λ k. wrongFrom (cut k 512 bytes) 0) (let e : blocks - 0 ≡ blocksIn bytes = omega arith in e)
+  wrong-all h = ap (λ k. wrongFrom sumStart (cut k 512 bytes) 0) (let e : blocks - 0 ≡ blocksIn bytes = omega arith in e)
 
   wrong-step : (i : ℕ) → i < blocks → wrongAfter bytes blocks i ≡ cond (rightAt bytes i) (wrongAfter bytes blocks (i + 1)) i
   unfolding wrongAfter rightAt wrongFrom cut
   wrong-step i h =
       let x = drop (512 * i) bytes in
       let k = blocks - (i + 1) in
-      ap (λ n. wrongFrom (cut n 512 x) i) (let e : blocks - i ≡ suc k = omega arith in e)
-      ∙ ap₂ (λ y n. cond (same (block i (take 504 (take 512 x))) (take 512 x)) (wrongFrom (cut k 512 y) n) i)
+      ap (λ n. wrongFrom sumStart (cut n 512 x) i) (let e : blocks - i ≡ suc k = omega arith in e)
+      ∙ ap₂ (λ y n. cond (same (block i (take 504 (take 512 x))) (take 512 x)) (wrongFrom sumStart (cut k 512 y) n) i)
       (drop-drop 512 (512 * i) bytes ∙ ap (λ n. drop n bytes) (let e : 512 * i + 512 ≡ 512 * (i + 1) = omega arith in e)) (sym (add-one i))
 
   pub wrong-here : (i : ℕ) → i < blocks → rightAt bytes i ≡ false → i ≡ wrongAfter bytes blocks i
@@ -117,4 +117,4 @@ module _ (bytes : List ℕ) (blocks : ℕ) where
 
   pub wrong-none : (i : ℕ) → i ≡ blocks → blocks ≡ wrongAfter bytes blocks i
   unfolding wrongAfter wrongFrom cut
-  wrong-none i h = sym h ∙ ap (λ n. wrongFrom (cut n 512 (drop (512 * i) bytes)) i) (let e : 0 ≡ blocks - i = omega arith in e)
+  wrong-none i h = sym h ∙ ap (λ n. wrongFrom sumStart (cut n 512 (drop (512 * i) bytes)) i) (let e : 0 ≡ blocks - i = omega arith in e)

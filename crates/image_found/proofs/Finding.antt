@@ -4,21 +4,26 @@ use mathlib.Core.Bool.{Bool, true, false, cond, not, _||_}
 use mathlib.Core.List.{List, [], _∷_, _++_}
 use Prim.Native.Nat.{ℕ, zero, suc, _+_, _*_, _≤_}
 use native.Mathlib.Omega.{arith}
+use borrow.Author.Tests.{not-false}
 use lib.Dec.{ltb}
 use lib.ListN.{length, take}
-use Rattle.meaning.specs.Blocks.{cut, blocksIn, block, same, wrongFrom, wrongBlock}
+use Rattle.meaning.specs.Blocks.{sumStart, cut, blocksIn, block, same, wrongFrom, wrongBlock}
 use Rattle.meaning.specs.Image.{isImage}
 use Rattle.meaning.specs.declared.Answer.{Answer}
-use Rattle.meaning.specs.Answers.{Row, _at_when_, Outcome, refusedWith, cameTo, settle}
-use Rattle.meaning.specs.Calls.{wrongSize, checkRows}
+use Rattle.meaning.specs.declared.Refusal.{Refusal}
+use Rattle.meaning.specs.declared.Verdict.{Verdict}
+use Rattle.meaning.specs.declared.Verdict.the-variants as Verdict
+use Rattle.meaning.specs.Answers.{Row, _at_when_, Outcome, refusedWith, cameTo, firstHolding, unlessRefused, settle}
+use Rattle.meaning.specs.Tests.{wrongSize, checkRows}
+use Rattle.theory.specs.Rows.{NoneHolds}
 use Rattle.theory.specs.Layout.{AreBytes}
-use Rattle.theory.specs.Stages.{Stages, nodesOf, marksOf, zerosFrom, samplesFrom, blocksOfSamples}
-use Rattle.theory.proofs.Settled.{or-first, or-neither, settle-here, settle-on}
+use Rattle.theory.specs.Stages.{Stages}
+use Rattle.theory.proofs.Settled.{or-first, or-neither, first-none, first-here, first-on, none-first, settle-append}
 use Rattle.theory.proofs.Stages.{image-stages, stages-image}
-use Rattle.image_found.specs.declared.Image.{Image}
+use Rattle.image_layout.specs.declared.Layout.{Layout}
 use Rattle.image_found.specs.declared.Checked.{Checked}
 use Rattle.image_found.specs.declared.Checked.the-variants.{Sound, Refused}
-use Rattle.image_found.specs.Checked.{checked, imageIn}
+use Rattle.image_found.specs.Checked.{checked, foundBy, layoutIn}
 
 not-true : (t : Bool) → (t ≡ true → ⊥) → t ≡ false
 not-true true h = absurd (h refl)
@@ -26,12 +31,12 @@ not-true false h = refl
 
 -- ---- the lowest wrong block is a block, or the number of blocks
 
-wrong-from : (xs : List (List ℕ)) (b : ℕ) → wrongFrom xs b ≤ b + length xs
+wrong-from : (start : ℕ → ℕ) (xs : List (List ℕ)) (b : ℕ) → wrongFrom start xs b ≤ b + length xs
 unfolding wrongFrom
-wrong-from [] b = omega arith
-wrong-from (x ∷ xs) b = go (wrong-from xs (suc b)) (same (block b (take 504 x)) x)
+wrong-from start [] b = omega arith
+wrong-from start (x ∷ xs) b = go (wrong-from start xs (suc b)) (same (block (start b) (take 504 x)) x)
   where
-    go : wrongFrom xs (suc b) ≤ suc b + length xs → (t : Bool) → cond t (wrongFrom xs (suc b)) b ≤ b + suc (length xs)
+    go : wrongFrom start xs (suc b) ≤ suc b + length xs → (t : Bool) → cond t (wrongFrom start xs (suc b)) b ≤ b + suc (length xs)
     go l true = omega arith
     go l false = omega arith
 
@@ -42,39 +47,46 @@ length-cut (suc k) size xs = ap suc (length-cut k size _)
 
 pub wrong-most : (bytes : List ℕ) → wrongBlock bytes ≤ blocksIn bytes
 unfolding wrongBlock
-wrong-most bytes = omega (arith, wrong-from (cut (blocksIn bytes) 512 bytes) 0, length-cut (blocksIn bytes) 512 bytes)
+wrong-most bytes = omega (arith, wrong-from sumStart (cut (blocksIn bytes) 512 bytes) 0, length-cut (blocksIn bytes) 512 bytes)
 
 -- ---- what is found
 
+abbrev refused : ℕ → ℕ → Checked
+refused c p = Refused (record { code = c; place = p })
+
 module _ (bytes : List ℕ) where
-  -- what is left to find behind the size, and behind the blocks
-  abbrev third : Checked
-  third = cond (isImage bytes) (Sound (imageIn bytes)) (Refused 7 0)
+  abbrev size : Row
+  size = 2 at 0 when (wrongSize bytes || false)
 
-  abbrev second : Checked
-  second = cond (ltb (wrongBlock bytes) (blocksIn bytes)) (Refused 6 (wrongBlock bytes)) third
+  abbrev sums : Row
+  sums = 6 at wrongBlock bytes when ltb (wrongBlock bytes) (blocksIn bytes)
 
-  pub found-size : wrongSize bytes ≡ true → Refused 2 0 ≡ checked bytes
-  unfolding checked
-  found-size e = sym (ap (λ t. cond t (Refused 2 0) second) e)
+  abbrev tree : Row
+  tree = 7 at 0 when not (isImage bytes)
+
+  by-rows : (v : Verdict) → firstHolding (size ∷ sums ∷ tree ∷ []) ≡ v → foundBy v (layoutIn bytes) ≡ checked bytes
+  unfolding checked checkRows
+  by-rows v e = sym (ap (λ u. foundBy u (layoutIn bytes)) e)
+
+  pub found-size : wrongSize bytes ≡ true → refused 2 0 ≡ checked bytes
+  found-size e = by-rows _ (first-here size (sums ∷ tree ∷ []) (or-first (wrongSize bytes) false e))
 
   module _ (right : wrongSize bytes ≡ false) where
-    sized : checked bytes ≡ second
-    unfolding checked
-    sized = ap (λ t. cond t (Refused 2 0) second) right
+    sized : firstHolding (size ∷ sums ∷ tree ∷ []) ≡ firstHolding (sums ∷ tree ∷ [])
+    sized = first-on size (sums ∷ tree ∷ []) (or-neither (wrongSize bytes) false right refl)
 
-    pub found-block : ltb (wrongBlock bytes) (blocksIn bytes) ≡ true → Refused 6 (wrongBlock bytes) ≡ checked bytes
-    found-block e = sym (sized ∙ ap (λ t. cond t (Refused 6 (wrongBlock bytes)) third) e)
+    pub found-block : ltb (wrongBlock bytes) (blocksIn bytes) ≡ true → refused 6 (wrongBlock bytes) ≡ checked bytes
+    found-block e = by-rows _ (sized ∙ first-here sums (tree ∷ []) e)
 
-    module _ (sums : ltb (wrongBlock bytes) (blocksIn bytes) ≡ false) where
-      summed : checked bytes ≡ third
-      summed = sized ∙ ap (λ t. cond t (Refused 6 (wrongBlock bytes)) third) sums
+    module _ (whole : ltb (wrongBlock bytes) (blocksIn bytes) ≡ false) where
+      summed : firstHolding (size ∷ sums ∷ tree ∷ []) ≡ firstHolding (tree ∷ [])
+      summed = sized ∙ first-on sums (tree ∷ []) whole
 
-      pub found-other : isImage bytes ≡ false → Refused 7 0 ≡ checked bytes
-      found-other e = sym (summed ∙ ap (λ t. cond t (Sound (imageIn bytes)) (Refused 7 0)) e)
+      pub found-other : isImage bytes ≡ false → refused 7 0 ≡ checked bytes
+      found-other e = by-rows _ (summed ∙ first-here tree [] (ap not e))
 
-      pub found-sound : isImage bytes ≡ true → Sound (imageIn bytes) ≡ checked bytes
-      found-sound e = sym (summed ∙ ap (λ t. cond t (Sound (imageIn bytes)) (Refused 7 0)) e)
+      pub found-sound : isImage bytes ≡ true → Sound (layoutIn bytes) ≡ checked bytes
+      found-sound e = by-rows Verdict.Passed (summed ∙ first-on tree [] (ap not e) ∙ first-none)
 
   -- the stages decide the last test
   pub staged : AreBytes bytes → length bytes ≡ 512 * blocksIn bytes → blocksIn bytes ≤ wrongBlock bytes → Stages bytes → isImage bytes ≡ true
@@ -83,60 +95,41 @@ module _ (bytes : List ℕ) where
   pub unstaged : (Stages bytes → ⊥) → isImage bytes ≡ false
   unstaged h = not-true (isImage bytes) (λ e. h (image-stages bytes e))
 
--- ---- what is read from the header
-
-pub image-read : (bytes : List ℕ) (n m k z s q : ℕ) → n ≡ nodesOf bytes → m ≡ marksOf bytes → k ≡ blocksIn bytes
-    → z ≡ zerosFrom n → s ≡ samplesFrom n → q ≡ blocksOfSamples m
-    → _≡_ {A = Image} (record { nodes = n; marks = m; blocks = k; zeros = z; samples1 = s; samples0 = s + q }) (imageIn bytes)
-image-read bytes n m k z s q e f g h i j = cc
-
 -- ---- what a call comes to that checks first
 
 module _ {A : Type 0} (before : A) (rest : List Row) (a : Answer) (after : A) where
   abbrev pub comesTo : Checked → Outcome A
   comesTo (Sound i) = settle before rest a after
-  comesTo (Refused code place) = cameTo (refusedWith code place) before
+  comesTo (Refused r) = cameTo (refusedWith (r .code) (r .place)) before
 
   -- by the first three rows of a reading; w, what else may have a wrong size, does not hold
   pub rows-checked : (bytes : List ℕ) (w : Bool) → w ≡ false → settle before (checkRows bytes w ++ rest) a after ≡ comesTo (checked bytes)
-  unfolding checkRows
-  rows-checked bytes w f = size (wrongSize bytes) refl
+  unfolding checked
+  rows-checked bytes w f =
+      ap (λ b. settle before (checkRows bytes b ++ rest) a after) f
+      ∙ settle-append before a after (checkRows bytes false) rest
+      ∙ by-verdict (firstHolding (checkRows bytes false))
     where
-      last : (t : Bool) → isImage bytes ≡ t → wrongSize bytes ≡ false → ltb (wrongBlock bytes) (blocksIn bytes) ≡ false
-          → settle before (7 at 0 when not (isImage bytes) ∷ rest) a after ≡ comesTo (checked bytes)
-      last true e g h = settle-on before a after (7 at 0 when not (isImage bytes)) rest (ap not e) ∙ ap comesTo (found-sound bytes g h e)
-      last false e g h = settle-here before a after (7 at 0 when not (isImage bytes)) rest (ap not e) ∙ ap comesTo (found-other bytes g h e)
-
-      block : (t : Bool) → ltb (wrongBlock bytes) (blocksIn bytes) ≡ t → wrongSize bytes ≡ false
-          → settle before (6 at wrongBlock bytes when ltb (wrongBlock bytes) (blocksIn bytes) ∷ 7 at 0 when not (isImage bytes) ∷ rest) a after ≡ comesTo (checked bytes)
-      block true e g = settle-here before a after (6 at wrongBlock bytes when ltb (wrongBlock bytes) (blocksIn bytes)) (7 at 0 when not (isImage bytes) ∷ rest) e ∙ ap comesTo (found-block bytes g e)
-      block false e g = settle-on before a after (6 at wrongBlock bytes when ltb (wrongBlock bytes) (blocksIn bytes)) (7 at 0 when not (isImage bytes) ∷ rest) e ∙ last (isImage bytes) refl g e
-
-      size : (t : Bool) → wrongSize bytes ≡ t → settle before (2 at 0 when (wrongSize bytes || w) ∷ 6 at wrongBlock bytes when ltb (wrongBlock bytes) (blocksIn bytes) ∷ 7 at 0 when not (isImage bytes) ∷ rest) a after ≡ comesTo (checked bytes)
-      size true e = settle-here before a after (2 at 0 when (wrongSize bytes || w)) _ (or-first (wrongSize bytes) w e) ∙ ap comesTo (found-size bytes e)
-      size false e = settle-on before a after (2 at 0 when (wrongSize bytes || w)) _ (or-neither (wrongSize bytes) w e f) ∙ block (ltb (wrongBlock bytes) (blocksIn bytes)) refl e
+      by-verdict : (v : Verdict) → unlessRefused before v (settle before rest a after) ≡ comesTo (foundBy v (layoutIn bytes))
+      by-verdict Verdict.Passed = refl
+      by-verdict (Verdict.Refused r) = refl
 
 -- what is known of an image that was found sound
-pub record IsSound (bytes : List ℕ) (i : Image) : Type 0 where
-  pub read : i ≡ imageIn bytes
+pub record IsSound (bytes : List ℕ) (i : Layout) : Type 0 where
+  pub read : i ≡ layoutIn bytes
   pub image : isImage bytes ≡ true
 
-abbrev Known : List ℕ → Checked → Type 0
-Known bytes (Sound i) = IsSound bytes i
-Known bytes (Refused code place) = Unit
+clash : {X : Type 0} {i : Layout} {r : Refusal} → Refused r ≡ Sound i → X
+clash e = let z : _≡_ {A = ℕ} 0 1 = cc in absurd (omega arith)
 
-pub sound-known : (bytes : List ℕ) (i : Image) → checked bytes ≡ Sound i → IsSound bytes i
+held-image : (bytes : List ℕ) → NoneHolds (checkRows bytes false) → isImage bytes ≡ true
+unfolding checkRows
+held-image bytes n = not-false (isImage bytes) (n .1 .1 .0)
+
+pub sound-known : (bytes : List ℕ) (i : Layout) → checked bytes ≡ Sound i → IsSound bytes i
 unfolding checked
-sound-known bytes i e = subst (Known bytes) e (size (wrongSize bytes) refl)
+sound-known bytes i e = by-verdict (firstHolding (checkRows bytes false)) refl e
   where
-    last : (t : Bool) → isImage bytes ≡ t → Known bytes (cond t (Sound (imageIn bytes)) (Refused 7 0))
-    last true f = record { read = refl; image = f }
-    last false f = tt
-
-    size : (s : Bool) → wrongSize bytes ≡ s → Known bytes (cond s (Refused 2 0) (cond (ltb (wrongBlock bytes) (blocksIn bytes)) (Refused 6 (wrongBlock bytes)) (cond (isImage bytes) (Sound (imageIn bytes)) (Refused 7 0))))
-    size true f = tt
-    size false f = block (ltb (wrongBlock bytes) (blocksIn bytes))
-      where
-        block : (t : Bool) → Known bytes (cond t (Refused 6 (wrongBlock bytes)) (cond (isImage bytes) (Sound (imageIn bytes)) (Refused 7 0)))
-        block true = tt
-        block false = last (isImage bytes) refl
+    by-verdict : (v : Verdict) → firstHolding (checkRows bytes false) ≡ v → foundBy v (layoutIn bytes) ≡ Sound i → IsSound bytes i
+    by-verdict Verdict.Passed f g = record { read = let e : i ≡ layoutIn bytes = cc in e; image = held-image bytes (none-first (checkRows bytes false) (sym f)) }
+    by-verdict (Verdict.Refused r) f g = clash g

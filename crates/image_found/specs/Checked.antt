@@ -1,40 +1,32 @@
 -- What the whole check of an image finds, and document 01's numbers for it ("Numbers a caller gets back").
-use mathlib.Core.Bool.{cond}
+use mathlib.Core.Bool.{false}
 use mathlib.Core.List.{List}
-use Prim.Native.Nat.{ℕ, _+_}
-use lib.Dec.{ltb}
+use Prim.Native.Nat.{ℕ}
 use Rattle.meaning.specs.declared.Answer.{Answer}
-use Rattle.meaning.specs.Answers.{refusedWith, counts}
-use Rattle.meaning.specs.Blocks.{blocksIn, wrongBlock}
-use Rattle.meaning.specs.Image.{isImage}
-use Rattle.meaning.specs.Calls.{wrongSize}
-use Rattle.theory.specs.Stages.{nodesOf, marksOf, zerosFrom, samplesFrom, blocksOfSamples}
-use Rattle.image_found.specs.declared.Image.{Image}
+use Rattle.meaning.specs.declared.Verdict.{Verdict}
+use Rattle.meaning.specs.declared.Verdict.the-variants as Verdict
+use Rattle.meaning.specs.Answers.{refusedWith, counts, firstHolding}
+use Rattle.meaning.specs.Tests.{checkRows}
+use Rattle.theory.specs.Stages.{nodesOf, runsOf}
+use Rattle.image_layout.specs.Layout.{layoutOf}
+use Rattle.image_layout.specs.declared.Layout.{Layout}
 use Rattle.image_found.specs.declared.Checked.{Checked}
 use Rattle.image_found.specs.declared.Checked.the-variants.{Sound, Refused}
 
--- n and m as the header has them, the number of blocks, and the blocks at which R0 and the samples of R1 and of R0 begin
-abbrev pub imageIn : List ℕ → Image
-imageIn bytes =
-    let n = nodesOf bytes in
-    let m = marksOf bytes in
-    record {
-      nodes = n;
-      marks = m;
-      blocks = blocksIn bytes;
-      zeros = zerosFrom n;
-      samples1 = samplesFrom n;
-      samples0 = samplesFrom n + blocksOfSamples m;
-    }
+-- the layout by n and m as the header has them
+abbrev pub layoutIn : List ℕ → Layout
+layoutIn bytes = layoutOf (nodesOf bytes) (runsOf bytes)
 
--- the stages, in the order of document 01's table
+-- a layout, unless some row refuses it
+abbrev pub foundBy : Verdict → Layout → Checked
+foundBy Verdict.Passed layout = Sound layout
+foundBy (Verdict.Refused r) layout = Refused r
+
+-- the rows of the check
 unfoldable pub checked : List ℕ → Checked
-checked bytes =
-    cond (wrongSize bytes) (Refused 2 0)
-    (cond (ltb (wrongBlock bytes) (blocksIn bytes)) (Refused 6 (wrongBlock bytes))
-    (cond (isImage bytes) (Sound (imageIn bytes)) (Refused 7 0)))
+checked bytes = foundBy (firstHolding (checkRows bytes false)) (layoutIn bytes)
 
 -- what is answered: the counts of an image that is sound, or the refusal
 abbrev pub answered : Checked → Answer
-answered (Sound i) = counts (i .nodes) (i .marks)
-answered (Refused code place) = refusedWith code place
+answered (Sound i) = counts (i .nodes) (i .runs)
+answered (Refused r) = refusedWith (r .code) (r .place)

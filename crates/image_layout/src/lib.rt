@@ -1,12 +1,20 @@
-// Blocks of an image: which blocks hold what.
+// The layout of an image: which blocks hold what, by the numbers of its nodes and runs.
 ghost use mathlib.Core.Path.{_≡_};
-ghost use Prim.Native.Nat.{_*_, _≤_};
-ghost use lib.ListN.{length};
+ghost use Prim.Native.Nat.{_≤_};
 ghost use Rattle.meaning.specs.Image.{stringBlocks};
-ghost use Rattle.theory.specs.Stages.{Header, blocksNeeded, blocksOfSamples, samplesFrom, zerosFrom};
-ghost use Rattle.image_found.specs.Checked.{imageIn};
-use image_found::Image;
-use image_words::word;
+ghost use Rattle.theory.specs.Stages.{blocksNeeded, blocksOfSamples, r0Block, r1Samples};
+ghost use Rattle.image_layout.specs.Layout.{layoutOf};
+
+// The nodes and runs of an image, the blocks at which R0, the samples of R1 and those of R0 begin,
+// and the number of its blocks. The header is block 0, and R1 begins at block 1.
+pub struct Layout {
+    pub nodes: u32,
+    pub runs: u32,
+    pub r0_block: u32,
+    pub r1_samples: u32,
+    pub r0_samples: u32,
+    pub blocks: u32,
+}
 
 // How many blocks a string of n bits takes.
 pub fn string_blocks(n: usize) -> usize
@@ -14,22 +22,6 @@ pub fn string_blocks(n: usize) -> usize
     ensures { λ r. ⌜ r ≡ stringBlocks n ⌝ }
 {
     (n + 3999) / 4000
-}
-
-// The block at which R0 begins: behind the header and the blocks of R1.
-pub fn zeros_from(n: usize) -> usize
-    requires { ⌜ n ≤ 65535 ⌝ }
-    ensures { λ r. ⌜ r ≡ zerosFrom n ⌝ }
-{
-    1 + string_blocks(n)
-}
-
-// The block at which the samples of R1 begin.
-pub fn samples_from(n: usize) -> usize
-    requires { ⌜ n ≤ 65535 ⌝ }
-    ensures { λ r. ⌜ r ≡ samplesFrom n ⌝ }
-{
-    zeros_from(n) + string_blocks(n + 1)
 }
 
 // How many blocks the samples of m ones take.
@@ -40,7 +32,23 @@ pub fn sample_blocks(m: usize) -> usize
     ((m + 63) / 64 + 125) / 126
 }
 
-// How many blocks n nodes and m marks take: the header, the two strings and their samples.
+// The block at which R0 begins.
+pub fn zeros_from(n: usize) -> usize
+    requires { ⌜ n ≤ 65535 ⌝ }
+    ensures { λ r. ⌜ r ≡ r0Block n ⌝ }
+{
+    1 + string_blocks(n)
+}
+
+// The block at which the samples of R1 begin.
+pub fn samples_from(n: usize) -> usize
+    requires { ⌜ n ≤ 65535 ⌝ }
+    ensures { λ r. ⌜ r ≡ r1Samples n ⌝ }
+{
+    zeros_from(n) + string_blocks(n + 1)
+}
+
+// How many blocks n nodes and m runs take.
 pub fn blocks_needed(n: usize, m: usize) -> usize
     requires { ⌜ n ≤ 65535 ⌝ }
     requires { ⌜ m ≤ 65535 ⌝ }
@@ -49,25 +57,21 @@ pub fn blocks_needed(n: usize, m: usize) -> usize
     samples_from(n) + 2 * sample_blocks(m)
 }
 
-// n, m and where the parts of an image begin, from a header that is right.
-pub fn image_in(b: &[u8], blocks: usize) -> Image
-    requires { ⌜ length (now b) ≡ 512 * blocks ⌝ }
-    requires { ⌜ 5 ≤ blocks ⌝ }
-    requires { ⌜ blocks ≤ 53 ⌝ }
-    requires { ⌜ Header (now b) ⌝ }
-    ensures { λ r. ⌜ r ≡ imageIn (now (b .entry)) ⌝ }
+// The layout of an image of n nodes with m runs: the header, the two strings, then their samples.
+pub fn layout_of(n: usize, m: usize) -> Layout
+    requires { ⌜ n ≤ 65535 ⌝ }
+    requires { ⌜ m ≤ 65535 ⌝ }
+    ensures { λ r. ⌜ r ≡ layoutOf n m ⌝ }
 {
-    let nodes = word(b, 4);
-    let marks = word(b, 8);
-    let zeros = zeros_from(nodes as usize);
-    let samples1 = samples_from(nodes as usize);
-    let samples0 = samples1 + sample_blocks(marks as usize);
-    Image {
-        nodes,
-        marks,
-        blocks: blocks as u32,
-        zeros: zeros as u32,
-        samples1: samples1 as u32,
-        samples0: samples0 as u32,
+    let r0_block = 1 + string_blocks(n);
+    let r1_samples = r0_block + string_blocks(n + 1);
+    let each = sample_blocks(m);
+    Layout {
+        nodes: n as u32,
+        runs: m as u32,
+        r0_block: r0_block as u32,
+        r1_samples: r1_samples as u32,
+        r0_samples: (r1_samples + each) as u32,
+        blocks: (r1_samples + 2 * each) as u32,
     }
 }

@@ -12,7 +12,8 @@ use Rattle.meaning.specs.Blocks.{blocksIn, wrongBlock}
 use Rattle.meaning.specs.Image.{image, isImage}
 use Rattle.meaning.specs.declared.Answer.{Answer}
 use Rattle.meaning.specs.Answers.{Row, cameTo, settle}
-use Rattle.meaning.specs.Calls.{outside, wrongSize, checkRows, checkImage}
+use Rattle.meaning.specs.Tests.{outside, wrongSize, checkRows}
+use Rattle.calls.specs.Calls.{checkImage}
 use Rattle.theory.specs.Rows.{NoneHolds}
 use Rattle.theory.proofs.Settled.{or-neither, between, equal}
 use Rattle.theory.proofs.Codes.{neither, Others, none-held}
@@ -20,13 +21,13 @@ use Rattle.theory.proofs.TreeImages.{is-image}
 use Rattle.theorems.proofs.Promises.{image-has-blocks}
 use Rattle.image_found.specs.declared.Checked.{Checked}
 use Rattle.image_found.specs.declared.Checked.the-variants.{Sound, Refused}
-use Rattle.image_found.specs.Checked.{checked, imageIn, answered}
+use Rattle.image_found.specs.Checked.{checked, layoutIn, answered}
 use Rattle.image_found.proofs.Finding.{comesTo, rows-checked, found-sound}
-use Rattle.image_found.proofs.Calling.{image-answered}
+use Rattle.call_check_image.proofs.Calling.{image-answered}
 
 -- w, what else that is lent may have a wrong size, does not hold
 module _ (t : Tree) (h : nodes t ≤ 65535) where
-  tree-sound : Sound (imageIn (image t)) ≡ checked (image t)
+  tree-sound : Sound (layoutIn (image t)) ≡ checked (image t)
   tree-sound =
       let x = image t in
       let b = image-has-blocks t h in
@@ -46,7 +47,7 @@ module _ (bytes : List ℕ) (refused : checkImage bytes .answer .code ≡ 0 → 
     where
       by-found : (c : Checked) → checked bytes ≡ c → comesTo before rest a after c ≡ cameTo (checkImage bytes .answer) before
       by-found (Sound i) e = absurd (refused (ap (λ o. o .answer .code) (sym (image-answered bytes)) ∙ ap (λ c. answered c .code) e))
-      by-found (Refused code place) e = ap (λ r. cameTo r before) (ap answered (sym e) ∙ ap (λ o. o .answer) (image-answered bytes))
+      by-found (Refused r) e = ap (λ r. cameTo r before) (ap answered (sym e) ∙ ap (λ o. o .answer) (image-answered bytes))
 
 -- code 0: what else is lent has a right size, some tree gives the bytes, and no row behind the check holds
 pub rows-done : {A : Type 0} (before : A) (a : Answer) (after : A) (bytes : List ℕ) (w : Bool) (rest : List Row) → Others 0 rest

@@ -17,17 +17,19 @@ use Rattle.meaning.specs.Image.{imageOfString, image, parentsIn}
 use Rattle.meaning.specs.Questions.{Ask, Question, questions, kindOf, numberOf, takes, isNode, allowedKind, allowed, notAllowed, answerKind, answerTo}
 use Rattle.meaning.specs.Listing.{listing, deep}
 use Rattle.meaning.specs.Answers.{_at_when_, counts, refusedWith, cameTo, settle, written, tooShort}
-use Rattle.meaning.specs.Calls.{imageOfParents, checkRows, checkImage, parentsOfImage, wrongQuestions, askImage, listImage}
+use Rattle.meaning.specs.Tests.{parentRows, checkRows}
+use Rattle.calls.specs.Calls.{imageOfParents, checkImage, parentsOfImage, wrongQuestions, askImage, listImage}
 use Rattle.theory.specs.Rank.{withChildren}
 use Rattle.theory.specs.Walks.{nodeAt, Gives, everything, Lists}
-use Rattle.theory.proofs.Settled.{or-neither, equal, between, settle-here, settle-on, settle-none}
+use Rattle.theory.proofs.Settled.{or-neither, equal, settle-here, settle-on, settle-none, settle-passed}
 use Rattle.theory.proofs.Codes.{neither, not-unequal, listed-tree, none-held}
 use Rattle.theory.proofs.Parents.{parents-are, parents-injective}
 use Rattle.theory.proofs.Lowest.{parents-badEntry}
 use Rattle.theory.proofs.Forms.{length-parents, string-parents}
 use Rattle.theory.proofs.TreeImages.{parents-in}
 use Rattle.theorems.proofs.Promises.{part-counts, own-answers, own-listing, image-back}
-use Rattle.image_found.proofs.Calling.{image-answered}
+use Rattle.parents_check.proofs.Refusing.{passes}
+use Rattle.call_check_image.proofs.Calling.{image-answered}
 use Rattle.list_measure.specs.Levels.{sized, sizeOf}
 use Rattle.list_measure.specs.Numbers.{measuredOutcome}
 use Rattle.image_promises.specs.Promises as P
@@ -61,15 +63,14 @@ sealed-of-tree t bytes h room =
     let p = parents-are t in
     let n = length-parents t in
     let made = image-back t h .0 in
-    settle-on _ _ _ _ _ (between 1 65535 (length ps) (p .some) (omega arith))
-    ∙ settle-on _ _ _ _ _ (le-ltb 0 (badEntry ps) (omega (arith, parents-badEntry ps p)))
+    settle-passed _ _ _ _ (parentRows ps) (passes ps (p .some) (omega arith) (parents-badEntry ps p))
     ∙ settle-on _ _ _ _ _ (le-ltb (length bytes) (length (imageOfString (stringOf ps))) (omega (arith, ap length made)))
     ∙ settle-none _ _ _
     ∙ ap₂ (λ n m. cameTo (counts n m) (written (imageOfString (stringOf ps)) bytes)) n (marks-in t)
     ∙ ap (λ xs. cameTo (countsOf t) (written xs bytes)) made
 
 pub list-sealed-exactly : P.ListSealedExactly
-unfolding imageOfParents
+unfolding imageOfParents parentRows
 list-sealed-exactly ps bytes = (
   λ e.
       let n = none-held bytes _ _ 0 _ (omega arith) e .0 in

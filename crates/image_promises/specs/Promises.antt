@@ -15,7 +15,7 @@ use Rattle.meaning.specs.Image.{image}
 use Rattle.meaning.specs.Questions.{Ask, Question, questions, kindOf, numberOf, takes, notAllowed}
 use Rattle.meaning.specs.Listing.{listing}
 use Rattle.meaning.specs.Answers.{counts, refusedWith, cameTo, written}
-use Rattle.meaning.specs.Calls.{imageOfParents, checkImage, parentsOfImage, wrongQuestions, askImage, listImage}
+use Rattle.calls.specs.Calls.{imageOfParents, checkImage, parentsOfImage, wrongQuestions, askImage, listImage}
 use Rattle.theory.specs.Rank.{withChildren}
 use Rattle.theory.specs.Walks.{nodeAt, Gives, everything, Lists, AllBelow, FirstAt}
 use Rattle.image_found.specs.Checked.{checked, answered}

@@ -13,7 +13,7 @@ use Rattle.meaning.specs.Strings.{O, ones}
 use Rattle.meaning.specs.Bytes.{bit, bitAt, bitsFrom, bytesFor, leftover}
 use Rattle.meaning.specs.Image.{stringBlocks, stringIn}
 use Rattle.theory.specs.Layout.{bitPlace, AreBytes}
-use Rattle.theory.specs.Stages.{Kept}
+use Rattle.theory.specs.Stages.{CountsAndPadding}
 use Rattle.theory.proofs.Digits.{byte-lt, same-bits}
 use Rattle.theory.proofs.Packing.{bits-of-byte, leftover-bits, bits-leftover}
 use Rattle.theory.proofs.TreeImages.{length-stringIn}
@@ -113,7 +113,7 @@ module _ (bytes : List ℕ) (are : AreBytes bytes) (at used : ℕ) where
 -- ---- what the blocks of a string keep
 
 module _ (bytes : List ℕ) (first n : ℕ) (some : 1 ≤ n) where
-  pub kept : Counted bytes first n → Unused bytes (512 * (first + (n - 1) / 4000) + 4) (n - 4000 * ((n - 1) / 4000)) → Kept bytes first (stringIn bytes first 0 n)
+  pub kept : Counted bytes first n → Unused bytes (512 * (first + (n - 1) / 4000) + 4) (n - 4000 * ((n - 1) / 4000)) → CountsAndPadding bytes first (stringIn bytes first 0 n)
   kept c u = record {
     counts = λ j h. let l = length-stringIn bytes first 0 n in c j (omega arith) ∙ ap (λ r. ones r) (sym (stringIn-take bytes first (4000 * j) n (omega arith)));
     unused = λ i h g. let l = length-stringIn bytes first 0 n in
@@ -123,12 +123,12 @@ module _ (bytes : List ℕ) (first n : ℕ) (some : 1 ≤ n) where
       place : (i : ℕ) → n ≤ i → i < 4000 * stringBlocks n → bitPlace first i ≡ 8 * (512 * (first + (n - 1) / 4000) + 4) + i % 4000
       place i h g = let e : i / 4000 ≡ (n - 1) / 4000 = omega arith in ap (λ j. 8 * (512 * (first + j) + 4) + i % 4000) e
 
-  pub kept-counts : Kept bytes first (stringIn bytes first 0 n) → Counted bytes first n
+  pub kept-counts : CountsAndPadding bytes first (stringIn bytes first 0 n) → Counted bytes first n
   kept-counts k j h =
       let l = length-stringIn bytes first 0 n in
       k .counts j (omega arith) ∙ ap (λ r. ones r) (stringIn-take bytes first (4000 * j) n (omega arith))
 
-  pub kept-unused : Kept bytes first (stringIn bytes first 0 n) → Unused bytes (512 * (first + (n - 1) / 4000) + 4) (n - 4000 * ((n - 1) / 4000))
+  pub kept-unused : CountsAndPadding bytes first (stringIn bytes first 0 n) → Unused bytes (512 * (first + (n - 1) / 4000) + 4) (n - 4000 * ((n - 1) / 4000))
   kept-unused k i h g =
       let l = length-stringIn bytes first 0 n in
       let q = 4000 * ((n - 1) / 4000) + i in

@@ -11,7 +11,7 @@ use Rattle.meaning.specs.Image.{stringIn}
 use Rattle.theory.specs.Layout.{bitPlace, wordAt}
 use Rattle.theory.specs.Stages.{Ended}
 use Rattle.theory.proofs.TreeImages.{length-stringIn, stringIn-at}
-use Rattle.bit.proofs.Values.{is-I}
+use Rattle.bits_byte.proofs.Values.{is-I}
 
 -- ---- the counts of the first j blocks
 

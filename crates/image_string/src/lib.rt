@@ -3,9 +3,9 @@ ghost use mathlib.Core.Path.{_≡_};
 ghost use Prim.Native.Nat.{_+_, _*_, _/_, _%_, _≤_, _<_};
 ghost use lib.ListN.{length};
 ghost use Rattle.meaning.specs.Bytes.{bitAt, value};
-ghost use Rattle.image_string.specs.Says.{Says};
+ghost use Rattle.image_string.specs.Decides.{Decides};
 ghost use Rattle.image_string.specs.Parts.{ZeroBytes};
-use bit::bit_at;
+use bits_byte::bit_at;
 
 // Bit i of the string whose blocks begin at block `first`.
 pub fn string_bit(b: &[u8], first: usize, i: usize) -> u8
@@ -18,10 +18,10 @@ pub fn string_bit(b: &[u8], first: usize, i: usize) -> u8
 }
 
 // Are the bytes from `from` to before `to` all zero? It looks at every one, whatever it finds, so that it becomes lanes.
-pub fn zeros_between(b: &[u8], from: usize, to: usize) -> bool
+pub fn all_zero(b: &[u8], from: usize, to: usize) -> bool
     requires { ⌜ from ≤ to ⌝ }
     requires { ⌜ to ≤ length (now b) ⌝ }
-    ensures { λ r. ⌜ Says r (ZeroBytes (now (b .entry)) from to) ⌝ }
+    ensures { λ r. ⌜ Decides r (ZeroBytes (now (b .entry)) from to) ⌝ }
 {
     let mut seen: u8 = 0;
     let mut i = from;

@@ -4,19 +4,17 @@ ghost use Prim.Native.Nat.{_+_, _%_, _<_, _≤_};
 ghost use lib.ListN.{length};
 ghost use Rattle.theory.specs.Layout.{wordAt};
 ghost use Rattle.image_words.specs.Words.{withWord};
-
-fn wide(x: u8) -> u32
-    ensures { λ r. ⌜ (r ≡ x) × (r < 256) ⌝ }
-{
-    x as u32
-}
+use bits_wide::byte_to_u32;
 
 // The word at byte `at`, little-endian: four bytes, which become one load.
 pub fn word(b: &[u8], at: usize) -> u32
     requires { ⌜ at + 4 ≤ length (now b) ⌝ }
     ensures { λ r. ⌜ r ≡ wordAt (now (b .entry)) at ⌝ }
 {
-    wide(b[at]) + wide(b[at + 1]) * 256 + wide(b[at + 2]) * 65536 + wide(b[at + 3]) * 16777216
+    byte_to_u32(b[at])
+        + byte_to_u32(b[at + 1]) * 256
+        + byte_to_u32(b[at + 2]) * 65536
+        + byte_to_u32(b[at + 3]) * 16777216
 }
 
 // Writes `x` at byte `at`, little-endian: four bytes, which become one store.

@@ -23,11 +23,11 @@ use Rattle.theory.proofs.Forms.{length-parents, string-parents}
 use Rattle.theory.proofs.Navigate.{counted, children-are, ones-before-is, onesBefore-mono, ranked}
 use Rattle.theory.proofs.TreeImages.{is-image, parents-in}
 use Rattle.theory.proofs.Stages.{image-stages, parts-read}
-use Rattle.image_found.specs.declared.Image.{Image}
+use Rattle.image_layout.specs.declared.Layout.{Layout}
 use Rattle.image_found.specs.declared.Checked.the-variants.{Sound}
 use Rattle.image_found.specs.Checked.{checked}
 use Rattle.image_found.proofs.Finding.{sound-known}
-use Rattle.bit.proofs.Values.{is-O, is-I}
+use Rattle.bits_byte.proofs.Values.{is-O, is-I}
 use Rattle.nav_sibling_range.proofs.Own.{strings}
 use Rattle.list_measure.specs.Levels.{low}
 
@@ -49,7 +49,7 @@ some-or-none I i (suc m) mark e f = (λ z. absurd (omega arith), λ z. omega ari
 
 -- ---- of an image
 
-module _ (bytes : List ℕ) (i : Image) (found : checked bytes ≡ Sound i) where
+module _ (bytes : List ℕ) (i : Layout) (found : checked bytes ≡ Sound i) where
   counted-nodes : i .nodes ≡ nodesOf bytes
   counted-nodes = ap (λ j. j .nodes) (sound-known bytes i found .read)
 

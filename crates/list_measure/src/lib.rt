@@ -7,8 +7,8 @@ ghost use Rattle.meaning.specs.Listing.{listing};
 ghost use Rattle.image_found.specs.declared.Checked.the-variants.{Sound};
 ghost use Rattle.image_found.specs.Checked.{checked};
 ghost use Rattle.list_measure.specs.Levels.{below, sizeOf, WhereFits};
-ghost use Rattle.list_measure.specs.Cursors.{Ready};
-use image_found::Image;
+ghost use Rattle.list_measure.specs.Cursors.{CursorsReady};
+use image_layout::Layout;
 use nav_children::ones_before_zero;
 
 // What a listing takes: how many nodes it has, or the first node that it would have at depth 64.
@@ -19,14 +19,14 @@ pub enum Measured {
 
 // How many nodes node x and everything below it are, level by level, or the first of them at depth 64.
 // The cursor of each level is left at the number before its first node.
-pub fn measure(b: &[u8], image: Image, x: usize, cursors: &mut [u32; 64]) -> Measured
+pub fn measure(b: &[u8], image: Layout, x: usize, cursors: &mut [u32; 64]) -> Measured
     requires { ⌜ checked (now b) ≡ Sound image ⌝ }
     requires { ⌜ 1 ≤ x ⌝ }
     requires { ⌜ x ≤ image .nodes ⌝ }
     requires { ⌜ length (now cursors) ≡ 64 ⌝ }
     ensures { λ r. ⌜ r ≡ sizeOf (listing 65 (parentsIn (now (b .entry))) x 0) ⌝ }
     ensures { λ r. ⌜ length (now (cursors .exit)) ≡ 64 ⌝ }
-    ensures { λ r. ⌜ WhereFits r (Ready (below (now (b .entry))) (now (cursors .exit)) (x - 1) x) ⌝ }
+    ensures { λ r. ⌜ WhereFits r (CursorsReady (below (now (b .entry))) (now (cursors .exit)) (x - 1) x) ⌝ }
 {
     // the nodes of a level are those after `a`, up to `z`
     let mut a = x - 1;

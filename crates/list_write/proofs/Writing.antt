@@ -10,12 +10,12 @@ use Rattle.meaning.specs.Answers.{written}
 use Rattle.meaning.specs.Image.{parentsIn}
 use Rattle.meaning.specs.Listing.{forEach, listing}
 use Rattle.theory.specs.Rank.{counting}
-use Rattle.image_found.specs.declared.Image.{Image}
+use Rattle.image_layout.specs.declared.Layout.{Layout}
 use Rattle.image_found.specs.declared.Checked.the-variants.{Sound}
 use Rattle.image_found.specs.Checked.{checked}
 use Rattle.image_found.proofs.Finding.{sound-known}
 use Rattle.list_measure.specs.Levels.{low, below}
-use Rattle.list_measure.specs.Cursors.{Ready}
+use Rattle.list_measure.specs.Cursors.{CursorsReady}
 use Rattle.list_write.specs.Writing.{MovedOn, pairsOf, ToList, Listed}
 use Rattle.list_measure.proofs.Levels.{listing-node}
 use Rattle.list_measure.proofs.Numbers.{low-mono, low-kids}
@@ -38,7 +38,7 @@ listings-step ps f d a z h =
     ∙ ap (λ k. listing f ps k d ++ forEach (λ c. listing f ps c d) (counting (suc k) (z - (a + 1)))) (sym (add-one a))
 
 -- a node, and then its children, where f of the 64 levels are left
-pub listing-step : (bytes : List ℕ) (i : Image) → checked bytes ≡ Sound i → (f x : ℕ) → 1 ≤ f → f ≤ 64
+pub listing-step : (bytes : List ℕ) (i : Layout) → checked bytes ≡ Sound i → (f x : ℕ) → 1 ≤ f → f ≤ 64
     → pairsOf bytes f x ≡ x ∷ (64 - f) ∷ listings (parentsIn bytes) (f - 1) (64 - (f - 1)) (low bytes x) (low bytes (x + 1))
 unfolding listings
 listing-step bytes i found f x some most =
@@ -50,13 +50,13 @@ listing-step bytes i found f x some most =
 
 -- ---- the node that is listed first, with all 64 levels left and none of its siblings
 
-pub to-list : (bytes : List ℕ) (i : Image) → checked bytes ≡ Sound i → (x : ℕ) (cs out : List ℕ) → 1 ≤ x → x ≤ i .nodes
-    → length cs ≡ 64 → Ready (below bytes) cs (x - 1) x → length (pairsOf bytes 64 x) ≤ length out → ToList bytes (i .zeros) x 64 cs out
+pub to-list : (bytes : List ℕ) (i : Layout) → checked bytes ≡ Sound i → (x : ℕ) (cs out : List ℕ) → 1 ≤ x → x ≤ i .nodes
+    → length cs ≡ 64 → CursorsReady (below bytes) cs (x - 1) x → length (pairsOf bytes 64 x) ≤ length out → ToList bytes (i .«r0_block») x 64 cs out
 to-list bytes i found x cs out some most count ready room =
     let read = sound-known bytes i found .read in
     record {
       node = record { sound = found ∙ ap Sound read; some = some; most = omega (arith, ap (λ j. j .nodes) read) };
-      begins = ap (λ j. j .zeros) read;
+      begins = ap (λ j. j .«r0_block») read;
       some = omega arith;
       most = omega arith;
       count = count;
@@ -124,7 +124,7 @@ module _ (bytes : List ℕ) (x left : ℕ) (cs₀ out₀ cs out : List ℕ) (fil
         (ap length (g .front) ∙ front-length (g .w) out₀ (omega arith), omega arith)
 
     -- and it is listed
-    pub going-more : (i : Image) → checked bytes ≡ Sound i → 2 ≤ left → left ≤ 64 → (cs' part part' : List ℕ) (n : ℕ)
+    pub going-more : (i : Layout) → checked bytes ≡ Sound i → 2 ≤ left → left ≤ 64 → (cs' part part' : List ℕ) (n : ℕ)
         → part ≡ take (length out - filled) (drop filled out)
         → Listed bytes (a + 1) (left - 1) (set cs (65 - left) (a + 1)) cs' part part' n
         → Going bytes x left cs₀ out₀ cs' (take filled out ++ (part' ++ drop (length out - filled) (drop filled out))) (filled + n) (a + 1)

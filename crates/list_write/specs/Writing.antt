@@ -6,21 +6,21 @@ use lib.ListN.{length, take, drop}
 use Rattle.meaning.specs.Answers.{written}
 use Rattle.meaning.specs.Image.{parentsIn}
 use Rattle.meaning.specs.Listing.{listing}
-use Rattle.theory.specs.Stages.{nodesOf, zerosFrom}
+use Rattle.theory.specs.Stages.{nodesOf, r0Block}
 use Rattle.image_found.specs.declared.Checked.the-variants.{Sound}
-use Rattle.image_found.specs.Checked.{checked, imageIn}
+use Rattle.image_found.specs.Checked.{checked, layoutIn}
 use Rattle.list_measure.specs.Levels.{low, below}
-use Rattle.list_measure.specs.Cursors.{Ready}
+use Rattle.list_measure.specs.Cursors.{CursorsReady}
 
 -- x is a node of a sound image
 pub record NodeIn (bytes : List ℕ) (x : ℕ) : Type 0 where
-  pub sound : checked bytes ≡ Sound (imageIn bytes)
+  pub sound : checked bytes ≡ Sound (layoutIn bytes)
   pub some : 1 ≤ x
   pub most : x ≤ nodesOf bytes
 
 -- once node x is listed: cursors that were ready for all below x and below the nodes after it, up to any z - 1, are ready for all below these
 abbrev pub MovedOn : List ℕ → ℕ → List ℕ → List ℕ → Type 0
-MovedOn bytes x before after = (z : ℕ) → x < z → Ready (below bytes) before (low bytes x) (low bytes z) → Ready (below bytes) after (low bytes (x + 1)) (low bytes z)
+MovedOn bytes x before after = (z : ℕ) → x < z → CursorsReady (below bytes) before (low bytes x) (low bytes z) → CursorsReady (below bytes) after (low bytes (x + 1)) (low bytes z)
 
 -- ---- listing node x where `left` of the 64 levels are left, its own among them: cursor 65 - left is that of its children
 
@@ -31,11 +31,11 @@ pairsOf bytes left x = listing left (parentsIn bytes) x (64 - left)
 -- what it needs
 pub record ToList (bytes : List ℕ) (zeros x left : ℕ) (cursors out : List ℕ) : Type 0 where
   pub node : NodeIn bytes x
-  pub begins : zeros ≡ zerosFrom (nodesOf bytes)
+  pub begins : zeros ≡ r0Block (nodesOf bytes)
   pub some : 1 ≤ left
   pub most : left ≤ 64
   pub count : length cursors ≡ 64
-  pub ready : Ready (below bytes) (drop (65 - left) cursors) (low bytes x) (low bytes (x + 1))
+  pub ready : CursorsReady (below bytes) (drop (65 - left) cursors) (low bytes x) (low bytes (x + 1))
   pub room : length (pairsOf bytes left x) ≤ length out
 
 -- what it gives: n numbers are written, and the cursors of the levels below x have moved on

@@ -2,14 +2,14 @@
 ghost use mathlib.Core.Path.{_≡_};
 ghost use Rattle.meaning.specs.Bytes.{value};
 ghost use Rattle.theory.specs.ByStrings.{bitOf};
-ghost use Rattle.theory.specs.Stages.{nodesOf, readR1, readR0, zerosFrom};
+ghost use Rattle.theory.specs.Stages.{nodesOf, readR1, readR0, r0Block};
 ghost use Rattle.list_write.specs.Writing.{NodeIn, ToList, Listed};
 use image_string::string_bit;
 
 // Has node x a child, 1 or 0? R0's bit at x, where R0 begins at block `zeros`.
 fn has_child(b: &[u8], zeros: usize, x: u32) -> u8
     requires { ⌜ NodeIn (now b) x ⌝ }
-    requires { ⌜ zeros ≡ zerosFrom (nodesOf (now b)) ⌝ }
+    requires { ⌜ zeros ≡ r0Block (nodesOf (now b)) ⌝ }
     ensures { λ r. ⌜ r ≡ value (bitOf (readR0 (now (b .entry))) x) ⌝ }
 {
     string_bit(b, zeros, x as usize - 1)

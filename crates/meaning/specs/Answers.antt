@@ -5,6 +5,8 @@ use Prim.Native.Nat.{ℕ}
 use lib.Dec.{ltb}
 use lib.ListN.{length, drop}
 use Rattle.meaning.specs.declared.Answer.{Answer}
+use Rattle.meaning.specs.declared.Verdict.{Verdict}
+use Rattle.meaning.specs.declared.Verdict.the-variants.{Passed, Refused}
 
 -- a row of document 01's table: the code and the place, given where the test holds
 pub record Row : Type 0 where
@@ -32,11 +34,29 @@ pub record Outcome (A : Type 0) : Type 0 where
 abbrev pub cameTo : {A : Type 0} → Answer → A → Outcome A
 cameTo a lent = record { answer = a; lent = lent }
 
--- where several rows hold, the upper one wins, and no lent list changes; where none holds, the answer a and the lists as they are after
+-- a row by itself
+abbrev pub alone : Row → Verdict
+alone r = cond (r .holds) (Refused (record { code = r .code; place = r .place })) Passed
+
+-- where several hold, the upper one wins
+abbrev pub over : Verdict → Verdict → Verdict
+over (Refused r) lower = Refused r
+over Passed lower = lower
+
+-- the first of the rows that holds
+unfoldable pub firstHolding : List Row → Verdict
+firstHolding [] = Passed
+firstHolding (r ∷ rs) = over (alone r) (firstHolding rs)
+
+-- a refused call changes no lent list; one that passed goes on
+abbrev pub unlessRefused : {A : Type 0} → (before : A) → Verdict → (rest : Outcome A) → Outcome A
+unlessRefused before Passed rest = rest
+unlessRefused before (Refused r) rest = cameTo (refusedWith (r .code) (r .place)) before
+
+-- what a call comes to by its rows: where none holds, the answer a and the lists as they are after
 unfoldable pub settle : {A : Type 0} → (before : A) → List Row → (a : Answer) → (after : A) → Outcome A
-settle before [] a after = cameTo a after
-settle before (r ∷ rs) a after =
-    let rest = settle before rs a after in cond (r .holds) (cameTo (refusedWith (r .code) (r .place)) before) rest
+unfolding firstHolding
+settle before rows a after = unlessRefused before (firstHolding rows) (cameTo a after)
 
 -- only the needed first part of an output is written
 abbrev pub written : {A : Type 0} → List A → List A → List A

@@ -28,7 +28,7 @@ unfoldable pub sums : List ℕ → ℕ → ℕ → List ℕ
 sums [] s t = s ∷ t ∷ []
 sums (w ∷ ws) s t = let s′ = (s + w) % 2 ^ 32 in sums ws s′ ((t + s′) % 2 ^ 32)
 
--- where s starts, in block b
+-- for block b: start with s = b
 abbrev pub sumStart : ℕ → ℕ
 sumStart b = b
 
@@ -38,15 +38,16 @@ sumStart b = b
 unfoldable pub padded : List ℕ → List ℕ
 padded payload = take 504 (payload ++ replicate 504 0)
 
+-- its s starts with `start`
 unfoldable pub block : ℕ → List ℕ → List ℕ
 unfolding wordBytes words sums
-block b payload = payload ++ wordBytes (sums (words payload) (sumStart b) 0)
+block start payload = payload ++ wordBytes (sums (words payload) start 0)
 
--- blocks with these payloads end to end, numbered from b
-unfoldable pub sealed : List (List ℕ) → ℕ → List ℕ
+-- blocks with these payloads end to end, numbered from b; `start` says where the s of each block starts
+unfoldable pub sealed : (start : ℕ → ℕ) → List (List ℕ) → ℕ → List ℕ
 unfolding padded block
-sealed [] b = []
-sealed (p ∷ ps) b = block b (padded p) ++ sealed ps (suc b)
+sealed start [] b = []
+sealed start (p ∷ ps) b = block (start b) (padded p) ++ sealed start ps (suc b)
 
 -- ---- The check of the sums.
 
@@ -65,11 +66,11 @@ abbrev pub blocksIn : List ℕ → ℕ
 blocksIn bytes = length bytes / 512
 
 -- the lowest of these blocks whose s or t is wrong, numbered from b; the number after the last if there is none
-unfoldable pub wrongFrom : List (List ℕ) → ℕ → ℕ
+unfoldable pub wrongFrom : (start : ℕ → ℕ) → List (List ℕ) → ℕ → ℕ
 unfolding block
-wrongFrom [] b = b
-wrongFrom (x ∷ xs) b = let rest = wrongFrom xs (suc b) in cond (same (block b (take 504 x)) x) rest b
+wrongFrom start [] b = b
+wrongFrom start (x ∷ xs) b = let rest = wrongFrom start xs (suc b) in cond (same (block (start b) (take 504 x)) x) rest b
 
 unfoldable pub wrongBlock : List ℕ → ℕ
 unfolding cut wrongFrom
-wrongBlock bytes = wrongFrom (cut (blocksIn bytes) 512 bytes) 0
+wrongBlock bytes = wrongFrom sumStart (cut (blocksIn bytes) 512 bytes) 0

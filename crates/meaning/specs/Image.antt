@@ -8,7 +8,7 @@ use Rattle.meaning.specs.Trees.{Tree}
 use Rattle.meaning.specs.Parents.{badEntry}
 use Rattle.meaning.specs.Strings.{Bit, ones, positions, lbs, R1, R0, parentsOf, stringOf, woven}
 use Rattle.meaning.specs.Bytes.{bitAt, bytesOf}
-use Rattle.meaning.specs.Blocks.{le32, wordBytes, words, cut, sealed, same}
+use Rattle.meaning.specs.Blocks.{le32, wordBytes, words, sumStart, cut, sealed, same}
 
 -- ---- The blocks of a string: the number of ones in earlier blocks, then 4,000 bits.
 
@@ -53,7 +53,7 @@ header r1 r0 = wordBytes (1 ∷ length r1 ∷ ones r1 ∷ suc (length (payloads 
 
 unfoldable pub imageOfParts : List Bit → List Bit → List ℕ
 unfolding header payloads sealed
-imageOfParts r1 r0 = sealed (header r1 r0 ∷ payloads r1 r0) 0
+imageOfParts r1 r0 = sealed sumStart (header r1 r0 ∷ payloads r1 r0) 0
 
 unfoldable pub imageOfString : List Bit → List ℕ
 unfolding imageOfParts R1 R0

@@ -10,5 +10,4 @@ pub mod Places
 pub mod Questions
 pub mod Listing
 pub mod Answers
-pub mod Calls
-pub mod Cases
+pub mod Tests

@@ -9,6 +9,18 @@ pub struct Answer {
     pub second: u32,
 }
 
+// Why a call is refused: a code and its place.
+pub struct Refusal {
+    pub code: u32,
+    pub place: u32,
+}
+
+// What tests in the order of the table find: none of them holds, or the refusal of the first that does.
+pub enum Verdict {
+    Passed,
+    Refused(Refusal),
+}
+
 // Document 01's table, by code.
 pub const NO_ROOM: u32 = 1;
 

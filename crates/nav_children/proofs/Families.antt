@@ -14,10 +14,10 @@ use Rattle.theory.specs.Rank.{onesLeft, position}
 use Rattle.theory.specs.ByStrings.{bitOf, within, before, parentOf, childBy, byStrings}
 use Rattle.theory.specs.Stages.{readR1, readR0}
 use Rattle.theory.proofs.ByStrings.{within-there, within-low, within-high}
-use Rattle.image_found.specs.declared.Image.{Image}
+use Rattle.image_layout.specs.declared.Layout.{Layout}
 use Rattle.image_found.specs.declared.Checked.the-variants.{Sound}
 use Rattle.image_found.specs.Checked.{checked}
-use Rattle.bit.proofs.Values.{is-I}
+use Rattle.bits_byte.proofs.Values.{is-I}
 use Rattle.ask_argument.specs.Values.{moved}
 use Rattle.nav_sibling_range.proofs.Counting.{left-next, left-after-one, position-less}
 use Rattle.nav_sibling_range.proofs.Own.{strings, more0, placed1}
@@ -60,7 +60,7 @@ module _ (r1 r0 : List Bit) where
 
 -- ---- the strings of a sound image, and a node
 
-module _ (bytes : List ℕ) (i : Image) (found : checked bytes ≡ Sound i) (x : ℕ) (g : 1 ≤ x) (h : x ≤ i .nodes) where
+module _ (bytes : List ℕ) (i : Layout) (found : checked bytes ≡ Sound i) (x : ℕ) (g : 1 ≤ x) (h : x ≤ i .nodes) where
   abbrev r1 : List Bit
   r1 = readR1 bytes
 
@@ -113,7 +113,7 @@ module _ (bytes : List ℕ) (i : Image) (found : checked bytes ≡ Sound i) (x :
     set = ap value (is-I (bitOf r0 x) bit read some)
 
     -- the next run of zeros has its one too
-    pub one-more : onesLeft r0 x + 2 ≤ i .marks
+    pub one-more : onesLeft r0 x + 2 ≤ i .runs
     one-more = omega (arith, set, left-next r0 x g in-r0, more0 bytes i found (suc x) (omega arith) (omega arith))
 
     pub apart : (k : ℕ) → k ≡ onesLeft r0 x → position r1 (k + 1) < position r1 (k + 2)

@@ -13,7 +13,7 @@ use ask_argument::Signed;
 use ask_argument::in_range;
 use ask_argument::shifted;
 use by_bit::bit_r0;
-use image_found::Image;
+use image_layout::Layout;
 use nav_sibling_range::run_last;
 use nav_strings::rank_r0;
 use nav_strings::rank_r1;
@@ -21,7 +21,7 @@ use nav_strings::select_r0;
 use nav_strings::select_r1;
 
 // The parent of node x, 0 for the root: the position in R0 of that one whose number is the count of ones left of x in R1.
-pub fn parent_of(b: &[u8], image: Image, x: usize) -> u32
+pub fn parent_of(b: &[u8], image: Layout, x: usize) -> u32
     requires { ⌜ checked (now b) ≡ Sound image ⌝ }
     requires { ⌜ 1 ≤ x ⌝ }
     requires { ⌜ x ≤ image .nodes ⌝ }
@@ -35,7 +35,7 @@ pub fn parent_of(b: &[u8], image: Image, x: usize) -> u32
 }
 
 // The ones of the tree string before its zero number z: node x has its children after those before zero x, up to those before zero x + 1.
-pub fn ones_before_zero(b: &[u8], image: Image, z: usize) -> usize
+pub fn ones_before_zero(b: &[u8], image: Layout, z: usize) -> usize
     requires { ⌜ checked (now b) ≡ Sound image ⌝ }
     requires { ⌜ 1 ≤ z ⌝ }
     requires { ⌜ z ≤ image .nodes + 1 ⌝ }
@@ -45,7 +45,7 @@ pub fn ones_before_zero(b: &[u8], image: Image, z: usize) -> usize
 }
 
 // The first child of node x, 0 for a leaf.
-pub fn first_child(b: &[u8], image: Image, x: usize) -> u32
+pub fn first_child(b: &[u8], image: Layout, x: usize) -> u32
     requires { ⌜ checked (now b) ≡ Sound image ⌝ }
     requires { ⌜ 1 ≤ x ⌝ }
     requires { ⌜ x ≤ image .nodes ⌝ }
@@ -58,7 +58,7 @@ pub fn first_child(b: &[u8], image: Image, x: usize) -> u32
 }
 
 // The last child of node x, 0 for a leaf.
-pub fn last_child(b: &[u8], image: Image, x: usize) -> u32
+pub fn last_child(b: &[u8], image: Layout, x: usize) -> u32
     requires { ⌜ checked (now b) ≡ Sound image ⌝ }
     requires { ⌜ 1 ≤ x ⌝ }
     requires { ⌜ x ≤ image .nodes ⌝ }
@@ -71,7 +71,7 @@ pub fn last_child(b: &[u8], image: Image, x: usize) -> u32
 }
 
 // How many children node x has. With a child, x ends a run of zeros, so that one more run has begun left of x + 1 and one rank does for both zeros.
-pub fn degree_of(b: &[u8], image: Image, x: usize) -> u32
+pub fn degree_of(b: &[u8], image: Layout, x: usize) -> u32
     requires { ⌜ checked (now b) ≡ Sound image ⌝ }
     requires { ⌜ 1 ≤ x ⌝ }
     requires { ⌜ x ≤ image .nodes ⌝ }
@@ -87,7 +87,7 @@ pub fn degree_of(b: &[u8], image: Image, x: usize) -> u32
 }
 
 // Child number z of node x, 0 if there is none.
-pub fn child_number(b: &[u8], image: Image, x: usize, z: Signed) -> u32
+pub fn child_number(b: &[u8], image: Layout, x: usize, z: Signed) -> u32
     requires { ⌜ checked (now b) ≡ Sound image ⌝ }
     requires { ⌜ 1 ≤ x ⌝ }
     requires { ⌜ x ≤ image .nodes ⌝ }

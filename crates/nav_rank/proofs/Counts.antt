@@ -8,7 +8,7 @@ use Rattle.meaning.specs.Bytes.{bitsFrom, value}
 use Rattle.meaning.specs.Image.{stringBlocks, stringIn}
 use Rattle.theory.specs.Layout.{wordAt}
 use Rattle.theory.specs.Rank.{onesLeft}
-use Rattle.theory.specs.Stages.{Kept}
+use Rattle.theory.specs.Stages.{CountsAndPadding}
 use Rattle.theory.proofs.TreeImages.{length-stringIn}
 use Rattle.theory.proofs.InBlocks.{block-more, full-more}
 use Rattle.bits_count.proofs.Runs.{ones-after}
@@ -77,7 +77,7 @@ rank-is bytes first n x s l r e =
 
 -- ---- the ones before the end of a block
 
-module _ (bytes : List ℕ) (first n : ℕ) (kept : Kept bytes first (stringIn bytes first 0 n)) where
+module _ (bytes : List ℕ) (first n : ℕ) (kept : CountsAndPadding bytes first (stringIn bytes first 0 n)) where
   pub kept-count : (j : ℕ) → j < stringBlocks n → wordAt bytes (512 * (first + j)) ≡ onesTo bytes first (4000 * j)
   kept-count j h = kept .counts j (omega (arith, length-stringIn bytes first 0 n)) ∙ onesTo-take bytes first (4000 * j) n (omega arith)
 

@@ -7,7 +7,7 @@ ghost use Rattle.meaning.specs.Bytes.{bitsFrom};
 ghost use Rattle.meaning.specs.Image.{stringBlocks, stringIn};
 ghost use Rattle.theory.specs.Layout.{wordAt};
 ghost use Rattle.theory.specs.Rank.{onesLeft};
-ghost use Rattle.theory.specs.Stages.{Kept};
+ghost use Rattle.theory.specs.Stages.{CountsAndPadding};
 ghost use Rattle.image_string.specs.Parts.{onesTo};
 use bits_count::ones_before;
 use bits_word::ones_in_word;
@@ -64,7 +64,7 @@ fn ones_to_end(b: &[u8], first: usize, n: usize, m: usize, j: usize) -> usize
     requires { ⌜ m ≡ ones (stringIn (now b) first 0 n) ⌝ }
     requires { ⌜ first ≤ 53 ⌝ }
     requires { ⌜ 512 * (first + stringBlocks n) ≤ length (now b) ⌝ }
-    requires { ⌜ Kept (now b) first (stringIn (now b) first 0 n) ⌝ }
+    requires { ⌜ CountsAndPadding (now b) first (stringIn (now b) first 0 n) ⌝ }
     requires { ⌜ j < stringBlocks n ⌝ }
     ensures { λ r. ⌜ (r ≡ onesTo (now (b .entry)) first (4000 * (j + 1))) × (r ≤ 65536) ⌝ }
 {
@@ -82,7 +82,7 @@ pub fn rank(b: &[u8], first: usize, n: usize, m: usize, x: usize) -> usize
     requires { ⌜ m ≡ ones (stringIn (now b) first 0 n) ⌝ }
     requires { ⌜ first ≤ 53 ⌝ }
     requires { ⌜ 512 * (first + stringBlocks n) ≤ length (now b) ⌝ }
-    requires { ⌜ Kept (now b) first (stringIn (now b) first 0 n) ⌝ }
+    requires { ⌜ CountsAndPadding (now b) first (stringIn (now b) first 0 n) ⌝ }
     ensures { λ r. ⌜ r ≡ onesLeft (stringIn (now (b .entry)) first 0 n) x ⌝ }
 {
     let j = (x - 1) / 4000;

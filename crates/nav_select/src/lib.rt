@@ -5,7 +5,7 @@ ghost use lib.ListN.{length};
 ghost use Rattle.meaning.specs.Strings.{ones};
 ghost use Rattle.meaning.specs.Image.{stringBlocks, stringIn};
 ghost use Rattle.theory.specs.Rank.{position};
-ghost use Rattle.theory.specs.Stages.{Kept, Sampled, blocksOfSamples};
+ghost use Rattle.theory.specs.Stages.{CountsAndPadding, Sampled, blocksOfSamples};
 use image_words::word;
 use nav_select_in_block::block_of;
 use nav_select_in_block::place_after;
@@ -22,7 +22,7 @@ pub fn select(b: &[u8], first: usize, n: usize, from: usize, m: usize, k: usize)
     requires { ⌜ length (now b) ≤ 512 * 53 ⌝ }
     requires { ⌜ 512 * (first + stringBlocks n) ≤ length (now b) ⌝ }
     requires { ⌜ 512 * (from + blocksOfSamples m) ≤ length (now b) ⌝ }
-    requires { ⌜ Kept (now b) first (stringIn (now b) first 0 n) ⌝ }
+    requires { ⌜ CountsAndPadding (now b) first (stringIn (now b) first 0 n) ⌝ }
     requires { ⌜ Sampled (now b) from m (stringIn (now b) first 0 n) ⌝ }
     ensures { λ r. ⌜ r ≡ position (stringIn (now (b .entry)) first 0 n) k ⌝ }
 {

@@ -4,7 +4,7 @@ ghost use Prim.Native.Nat.{_+_, _*_, _/_, _≤_, _<_};
 ghost use lib.ListN.{length};
 ghost use Rattle.meaning.specs.Image.{stringBlocks, stringIn};
 ghost use Rattle.theory.specs.Rank.{position};
-ghost use Rattle.theory.specs.Stages.{Kept};
+ghost use Rattle.theory.specs.Stages.{CountsAndPadding};
 ghost use Rattle.image_string.specs.Parts.{onesTo};
 use bits_byte::ones_in_front;
 use bits_select::place_from;
@@ -30,7 +30,7 @@ pub fn block_of(b: &[u8], first: usize, n: usize, j: usize, k: usize) -> usize
     requires { ⌜ n ≤ 65536 ⌝ }
     requires { ⌜ first ≤ 53 ⌝ }
     requires { ⌜ 512 * (first + stringBlocks n) ≤ length (now b) ⌝ }
-    requires { ⌜ Kept (now b) first (stringIn (now b) first 0 n) ⌝ }
+    requires { ⌜ CountsAndPadding (now b) first (stringIn (now b) first 0 n) ⌝ }
     requires { ⌜ j < stringBlocks n ⌝ }
     requires { ⌜ onesTo (now b) first (4000 * j) < k ⌝ }
     requires { ⌜ k ≤ onesTo (now b) first n ⌝ }

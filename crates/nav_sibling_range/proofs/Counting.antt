@@ -12,7 +12,7 @@ use Rattle.theory.specs.ByStrings.{bitOf}
 use Rattle.theory.specs.Stages.{Ended}
 use Rattle.theory.proofs.InStep.{runs-ended, one-missing}
 use Rattle.theory.proofs.Navigate.{position-zero, place-of-one}
-use Rattle.bit.proofs.Values.{is-I}
+use Rattle.bits_byte.proofs.Values.{is-I}
 
 -- ---- by positions from 0
 

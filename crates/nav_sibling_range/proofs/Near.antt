@@ -11,7 +11,7 @@ use Rattle.theory.specs.Rank.{onesLeft, position}
 use Rattle.theory.specs.Layout.{bitPlace}
 use Rattle.theory.specs.ByStrings.{bitOf}
 use Rattle.theory.specs.Stages.{readR1}
-use Rattle.image_found.specs.declared.Image.{Image}
+use Rattle.image_layout.specs.declared.Layout.{Layout}
 use Rattle.image_found.specs.declared.Checked.the-variants.{Sound}
 use Rattle.image_found.specs.Checked.{checked}
 use Rattle.bits_nearest.specs.Found.{LastOne, FirstOne}
@@ -24,7 +24,7 @@ place-in i k h = omega arith
 
 -- ---- bits of R1
 
-module _ (bytes : List ℕ) (i : Image) (found : checked bytes ≡ Sound i) where
+module _ (bytes : List ℕ) (i : Layout) (found : checked bytes ≡ Sound i) where
   abbrev r1 : List Bit
   r1 = readR1 bytes
 
@@ -78,7 +78,7 @@ module _ (bytes : List ℕ) (i : Image) (found : checked bytes ≡ Sound i) wher
           omega (
             arith,
             s .length1,
-            zero-not-last (i .marks) r1 m (s .ended1) (omega arith) (inside m (omega arith)) (sym (read m (omega arith) (omega arith)) ∙ z m h (omega arith)),
+            zero-not-last (i .runs) r1 m (s .ended1) (omega arith) (inside m (omega arith)) (sym (read m (omega arith) (omega arith)) ∙ z m h (omega arith)),
           )
           )
     ])

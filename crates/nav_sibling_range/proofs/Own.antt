@@ -14,13 +14,13 @@ use Rattle.meaning.specs.Questions.{Ask, answer}
 use Rattle.theory.specs.Rank.{onesLeft, position}
 use Rattle.theory.specs.Layout.{bitPlace}
 use Rattle.theory.specs.ByStrings.{bitOf, before, byStrings}
-use Rattle.theory.specs.Stages.{Ended, readR1, readR0, nodesOf, zerosFrom}
+use Rattle.theory.specs.Stages.{Ended, readR1, readR0, nodesOf, r0Block}
 use Rattle.theory.proofs.TreeImages.{is-image, parents-in, length-stringIn, stringIn-at}
 use Rattle.theory.proofs.InBlocks.{stringIn-cut}
 use Rattle.theory.proofs.Forms.{length-parents, string-parents}
 use Rattle.theory.proofs.Stages.{image-stages, parts-read}
 use Rattle.theory.proofs.ByStrings.{answers-by-strings}
-use Rattle.image_found.specs.declared.Image.{Image}
+use Rattle.image_layout.specs.declared.Layout.{Layout}
 use Rattle.image_found.specs.declared.Checked.the-variants.{Sound}
 use Rattle.image_found.specs.Checked.{checked}
 use Rattle.image_found.proofs.Finding.{sound-known}
@@ -43,22 +43,22 @@ image-answers bytes e ask x z g h =
     ∙ ap₂ (λ a b. byStrings a b ask x z) (sym (ap R1 string) ∙ p .first) (sym (ap R0 string) ∙ p .second)
 
 -- the strings of an image that was found sound
-pub record Strings (bytes : List ℕ) (i : Image) : Type 0 where
+pub record Strings (bytes : List ℕ) (i : Layout) : Type 0 where
   pub most : i .nodes ≤ 65535
-  pub marked : i .marks ≤ i .nodes
+  pub marked : i .runs ≤ i .nodes
   pub length1 : length (readR1 bytes) ≡ i .nodes
   pub length0 : length (readR0 bytes) ≡ i .nodes + 1
-  pub ended1 : Ended (i .marks) (readR1 bytes)
-  pub ended0 : Ended (i .marks) (readR0 bytes)
+  pub ended1 : Ended (i .runs) (readR1 bytes)
+  pub ended0 : Ended (i .runs) (readR0 bytes)
   pub own : (ask : Ask) (x : ℕ) (z : ℤ) → 1 ≤ x → x ≤ i .nodes → answer (parentsIn bytes) ask x z ≡ byStrings (readR1 bytes) (readR0 bytes) ask x z
 
-pub strings : (bytes : List ℕ) (i : Image) → checked bytes ≡ Sound i → Strings bytes i
+pub strings : (bytes : List ℕ) (i : Layout) → checked bytes ≡ Sound i → Strings bytes i
 strings bytes i found =
     let k = sound-known bytes i found in
     let s = image-stages bytes (k .image) in
     subst (Strings bytes) (sym (k .read)) (record {
       most = s .header .most;
-      marked = s .header .marksMost;
+      marked = s .header .runsMost;
       length1 = length-stringIn bytes 1 0 (nodesOf bytes);
       length0 = length-stringIn bytes _ 0 (nodesOf bytes + 1);
       ended1 = s .ended1;
@@ -66,7 +66,7 @@ strings bytes i found =
       own = image-answers bytes (k .image);
     })
 
-module _ (bytes : List ℕ) (i : Image) (found : checked bytes ≡ Sound i) where
+module _ (bytes : List ℕ) (i : Layout) (found : checked bytes ≡ Sound i) where
   abbrev r1 : List Bit
   r1 = readR1 bytes
 
@@ -74,14 +74,14 @@ module _ (bytes : List ℕ) (i : Image) (found : checked bytes ≡ Sound i) wher
   r0 = readR0 bytes
 
   -- there is one more one to select
-  pub more1 : (x : ℕ) → 1 ≤ x → x ≤ i .nodes → onesLeft r1 x < i .marks
-  more1 x g h = let s = strings bytes i found in left-missing (i .marks) r1 x (s .ended1) g (omega (arith, s .length1))
+  pub more1 : (x : ℕ) → 1 ≤ x → x ≤ i .nodes → onesLeft r1 x < i .runs
+  more1 x g h = let s = strings bytes i found in left-missing (i .runs) r1 x (s .ended1) g (omega (arith, s .length1))
 
-  pub more0 : (x : ℕ) → 1 ≤ x → x ≤ i .nodes + 1 → onesLeft r0 x < i .marks
-  more0 x g h = let s = strings bytes i found in left-missing (i .marks) r0 x (s .ended0) g (omega (arith, s .length0))
+  pub more0 : (x : ℕ) → 1 ≤ x → x ≤ i .nodes + 1 → onesLeft r0 x < i .runs
+  more0 x g h = let s = strings bytes i found in left-missing (i .runs) r0 x (s .ended0) g (omega (arith, s .length0))
 
   -- what is found is small
-  pub few : i .marks ≤ 65535
+  pub few : i .runs ≤ 65535
   few = let s = strings bytes i found in omega (arith, s .most, s .marked)
 
   within-length : (first n k : ℕ) → position (stringIn bytes first 0 n) k ≤ n
@@ -96,7 +96,7 @@ module _ (bytes : List ℕ) (i : Image) (found : checked bytes ≡ Sound i) wher
   pub small0 : (k : ℕ) → position r0 k ≤ 65536
   small0 k =
       let s = strings bytes i found in
-      let first = zerosFrom (nodesOf bytes) in
+      let first = r0Block (nodesOf bytes) in
       omega (arith, s .most, s .length0, within-length first (nodesOf bytes + 1) k, length-stringIn bytes first 0 (nodesOf bytes + 1))
 
   pub small-before : (z : ℕ) → before r1 r0 z ≤ 65535
@@ -113,5 +113,5 @@ module _ (bytes : List ℕ) (i : Image) (found : checked bytes ≡ Sound i) wher
   pub bit1 : (x y : ℕ) → 1 ≤ x → x ≤ i .nodes → y ≡ value (bitAt bytes (bitPlace 1 (x - 1))) → y ≡ value (bitOf r1 x)
   bit1 x y g h e = in-r1 bytes i found (λ r. value (bitOf r x)) y (bit-read 1 (i .nodes) x y g h e)
 
-  pub bit0 : (x y : ℕ) → 1 ≤ x → x ≤ i .nodes → y ≡ value (bitAt bytes (bitPlace (i .zeros) (x - 1))) → y ≡ value (bitOf r0 x)
-  bit0 x y g h e = in-r0 bytes i found (λ r. value (bitOf r x)) y (bit-read (i .zeros) (i .nodes + 1) x y g (omega arith) e)
+  pub bit0 : (x y : ℕ) → 1 ≤ x → x ≤ i .nodes → y ≡ value (bitAt bytes (bitPlace (i .«r0_block») (x - 1))) → y ≡ value (bitOf r0 x)
+  bit0 x y g h e = in-r0 bytes i found (λ r. value (bitOf r x)) y (bit-read (i .«r0_block») (i .nodes + 1) x y g (omega arith) e)

@@ -7,14 +7,14 @@ ghost use Rattle.image_found.specs.declared.Checked.the-variants.{Sound};
 ghost use Rattle.image_found.specs.Checked.{checked};
 use bits_nearest::first_one;
 use bits_nearest::last_one;
-use image_found::Image;
+use image_layout::Layout;
 use nav_strings::rank_r1;
 use nav_strings::select_r1;
 
 // The position of one number k of R1, 0 for number 0: the last node of that run of siblings.
-fn run_end(b: &[u8], image: Image, k: usize) -> usize
+fn run_end(b: &[u8], image: Layout, k: usize) -> usize
     requires { ⌜ checked (now b) ≡ Sound image ⌝ }
-    requires { ⌜ k ≤ image .marks ⌝ }
+    requires { ⌜ k ≤ image .runs ⌝ }
     ensures { λ r. ⌜ r ≡ position (readR1 (now (b .entry))) k ⌝ }
 {
     if k == 0 {
@@ -24,7 +24,7 @@ fn run_end(b: &[u8], image: Image, k: usize) -> usize
 }
 
 // The last node before the siblings of node x, 0 if there is none, by counting.
-fn far_before(b: &[u8], image: Image, x: usize) -> usize
+fn far_before(b: &[u8], image: Layout, x: usize) -> usize
     requires { ⌜ checked (now b) ≡ Sound image ⌝ }
     requires { ⌜ 1 ≤ x ⌝ }
     requires { ⌜ x ≤ image .nodes ⌝ }
@@ -34,7 +34,7 @@ fn far_before(b: &[u8], image: Image, x: usize) -> usize
 }
 
 // The same: the last one of R1 left of x. Its own block has it nearly always.
-pub fn run_before(b: &[u8], image: Image, x: usize) -> usize
+pub fn run_before(b: &[u8], image: Layout, x: usize) -> usize
     requires { ⌜ checked (now b) ≡ Sound image ⌝ }
     requires { ⌜ 1 ≤ x ⌝ }
     requires { ⌜ x ≤ image .nodes ⌝ }
@@ -50,7 +50,7 @@ pub fn run_before(b: &[u8], image: Image, x: usize) -> usize
 }
 
 // The last of the siblings of node x, by counting.
-fn far_last(b: &[u8], image: Image, x: usize) -> usize
+fn far_last(b: &[u8], image: Layout, x: usize) -> usize
     requires { ⌜ checked (now b) ≡ Sound image ⌝ }
     requires { ⌜ 1 ≤ x ⌝ }
     requires { ⌜ x ≤ image .nodes ⌝ }
@@ -60,7 +60,7 @@ fn far_last(b: &[u8], image: Image, x: usize) -> usize
 }
 
 // The same: the first one of R1 that is not left of x. There is one, since R1 ends with a one.
-pub fn run_last(b: &[u8], image: Image, x: usize) -> usize
+pub fn run_last(b: &[u8], image: Layout, x: usize) -> usize
     requires { ⌜ checked (now b) ≡ Sound image ⌝ }
     requires { ⌜ 1 ≤ x ⌝ }
     requires { ⌜ x ≤ image .nodes ⌝ }

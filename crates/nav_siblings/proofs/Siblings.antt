@@ -12,7 +12,7 @@ use Rattle.theory.specs.ByStrings.{within, before, parentOf, siblingBy, byStrin
 use Rattle.theory.specs.Stages.{readR1, readR0}
 use Rattle.theory.proofs.Navigate.{position-zero}
 use Rattle.theory.proofs.ByStrings.{within-there, within-low, within-high}
-use Rattle.image_found.specs.declared.Image.{Image}
+use Rattle.image_layout.specs.declared.Layout.{Layout}
 use Rattle.image_found.specs.declared.Checked.the-variants.{Sound}
 use Rattle.image_found.specs.Checked.{checked}
 use Rattle.ask_argument.specs.Values.{moved}
@@ -50,7 +50,7 @@ module _ (r1 r0 : List Bit) where
 
 -- ---- the strings of a sound image, and a node
 
-module _ (bytes : List ℕ) (i : Image) (found : checked bytes ≡ Sound i) (x : ℕ) (g : 1 ≤ x) (h : x ≤ i .nodes) where
+module _ (bytes : List ℕ) (i : Layout) (found : checked bytes ≡ Sound i) (x : ℕ) (g : 1 ≤ x) (h : x ≤ i .nodes) where
   abbrev r1 : List Bit
   r1 = readR1 bytes
 

@@ -9,12 +9,12 @@ ghost use Rattle.image_found.specs.Checked.{checked};
 ghost use Rattle.ask_argument.specs.Values.{valueOf};
 use ask_argument::Signed;
 use ask_argument::shifted;
-use image_found::Image;
+use image_layout::Layout;
 use nav_sibling_range::run_before;
 use nav_sibling_range::run_last;
 
 // The place of node x among its siblings, from 1.
-pub fn child_rank(b: &[u8], image: Image, x: usize) -> u32
+pub fn child_rank(b: &[u8], image: Layout, x: usize) -> u32
     requires { ⌜ checked (now b) ≡ Sound image ⌝ }
     requires { ⌜ 1 ≤ x ⌝ }
     requires { ⌜ x ≤ image .nodes ⌝ }
@@ -25,7 +25,7 @@ pub fn child_rank(b: &[u8], image: Image, x: usize) -> u32
 
 // The sibling of node x that is z places to the right, to the left where z is negative, 0 if there is none.
 // Siblings end where a run of ones ends: to the left the run before theirs, to the right their own.
-pub fn sibling_at(b: &[u8], image: Image, x: usize, z: Signed) -> u32
+pub fn sibling_at(b: &[u8], image: Layout, x: usize, z: Signed) -> u32
     requires { ⌜ checked (now b) ≡ Sound image ⌝ }
     requires { ⌜ 1 ≤ x ⌝ }
     requires { ⌜ x ≤ image .nodes ⌝ }

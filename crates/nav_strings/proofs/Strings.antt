@@ -7,16 +7,16 @@ use native.Mathlib.Omega.{arith}
 use lib.ListN.{length}
 use Rattle.meaning.specs.Strings.{Bit, ones}
 use Rattle.meaning.specs.Image.{isImage, stringBlocks, stringIn}
-use Rattle.theory.specs.Stages.{Kept, Sampled, blocksOfSamples, readR1, readR0}
+use Rattle.theory.specs.Stages.{CountsAndPadding, Sampled, blocksOfSamples, readR1, readR0}
 use Rattle.theory.proofs.TreeImages.{is-image, image-size, image-most}
 use Rattle.theory.proofs.Stages.{image-stages}
-use Rattle.image_found.specs.declared.Image.{Image}
+use Rattle.image_layout.specs.declared.Layout.{Layout}
 use Rattle.image_found.specs.declared.Checked.the-variants.{Sound}
 use Rattle.image_found.specs.Checked.{checked}
 use Rattle.image_found.proofs.Finding.{sound-known}
 
 -- a string of n bits, m of them ones, from block `first` on, its samples from block `from` on
-pub record Ready (bytes : List ℕ) (first n from m : ℕ) : Type 0 where
+pub record SoundString (bytes : List ℕ) (first n from m : ℕ) : Type 0 where
   pub most : n ≤ 65536
   pub size : length bytes ≤ 512 * 53
   pub near : first ≤ 53
@@ -24,7 +24,7 @@ pub record Ready (bytes : List ℕ) (first n from m : ℕ) : Type 0 where
   pub room : 512 * (first + stringBlocks n) ≤ length bytes
   pub roomier : 512 * (from + blocksOfSamples m) ≤ length bytes
   pub count : m ≡ ones (stringIn bytes first 0 n)
-  pub kept : Kept bytes first (stringIn bytes first 0 n)
+  pub kept : CountsAndPadding bytes first (stringIn bytes first 0 n)
   pub sampled : Sampled bytes from m (stringIn bytes first 0 n)
 
 image-length : (bytes : List ℕ) → isImage bytes ≡ true → (length bytes ≡ 512 * (length bytes / 512)) × (length bytes ≤ 512 * 53)
@@ -35,21 +35,21 @@ image-length bytes e =
     let most = image-most t (r .1) in
     (omega arith, omega arith)
 
-module _ (bytes : List ℕ) (i : Image) (found : checked bytes ≡ Sound i) where
+module _ (bytes : List ℕ) (i : Layout) (found : checked bytes ≡ Sound i) where
   -- what is read of them
   pub in-r1 : (f : List Bit → ℕ) (x : ℕ) → x ≡ f (stringIn bytes 1 0 (i .nodes)) → x ≡ f (readR1 bytes)
   in-r1 f x e = e ∙ ap (λ j. f (stringIn bytes 1 0 (j .nodes))) (sound-known bytes i found .read)
 
-  pub in-r0 : (f : List Bit → ℕ) (x : ℕ) → x ≡ f (stringIn bytes (i .zeros) 0 (i .nodes + 1)) → x ≡ f (readR0 bytes)
-  in-r0 f x e = e ∙ ap (λ j. f (stringIn bytes (j .zeros) 0 (j .nodes + 1))) (sound-known bytes i found .read)
+  pub in-r0 : (f : List Bit → ℕ) (x : ℕ) → x ≡ f (stringIn bytes (i .«r0_block») 0 (i .nodes + 1)) → x ≡ f (readR0 bytes)
+  in-r0 f x e = e ∙ ap (λ j. f (stringIn bytes (j .«r0_block») 0 (j .nodes + 1))) (sound-known bytes i found .read)
 
-  pub ready1 : Ready bytes 1 (i .nodes) (i .samples1) (i .marks)
+  pub ready1 : SoundString bytes 1 (i .nodes) (i .«r1_samples») (i .runs)
   ready1 =
       let k = sound-known bytes i found in
       let s = image-stages bytes (k .image) in
       let l = image-length bytes (k .image) in
       let h = s .header in
-      subst (λ j. Ready bytes 1 (j .nodes) (j .samples1) (j .marks)) (sym (k .read)) (record {
+      subst (λ j. SoundString bytes 1 (j .nodes) (j .«r1_samples») (j .runs)) (sym (k .read)) (record {
         most = omega (arith, h .most);
         size = l .1;
         near = omega arith;
@@ -61,13 +61,13 @@ module _ (bytes : List ℕ) (i : Image) (found : checked bytes ≡ Sound i) wher
         sampled = s .sampled1;
       })
 
-  pub ready0 : Ready bytes (i .zeros) (i .nodes + 1) (i .samples0) (i .marks)
+  pub ready0 : SoundString bytes (i .«r0_block») (i .nodes + 1) (i .«r0_samples») (i .runs)
   ready0 =
       let k = sound-known bytes i found in
       let s = image-stages bytes (k .image) in
       let l = image-length bytes (k .image) in
       let h = s .header in
-      subst (λ j. Ready bytes (j .zeros) (j .nodes + 1) (j .samples0) (j .marks)) (sym (k .read)) (record {
+      subst (λ j. SoundString bytes (j .«r0_block») (j .nodes + 1) (j .«r0_samples») (j .runs)) (sym (k .read)) (record {
         most = omega (arith, h .most);
         size = l .1;
         near = omega (arith, h .needed);

@@ -7,7 +7,7 @@ ghost use Rattle.image_found.specs.declared.Checked.the-variants.{Sound};
 ghost use Rattle.image_found.specs.Checked.{checked};
 ghost use Rattle.outline_text.specs.Text.{Puts};
 ghost use Rattle.outline_heading.specs.Lines.{nodeLine, nodeLines, Pairs};
-use image_found::Image;
+use image_layout::Layout;
 use nav_children::degree_of;
 use outline_text::put;
 use outline_text::put_decimal;
@@ -25,7 +25,7 @@ fn put_node(text: &mut [u8], at: usize, x: u32, depth: u32, degree: u32) -> usiz
 }
 
 // A line for each pair of node and depth.
-pub fn put_nodes(b: &[u8], image: Image, pairs: &[u32], text: &mut [u8], from: usize) -> usize
+pub fn put_nodes(b: &[u8], image: Layout, pairs: &[u32], text: &mut [u8], from: usize) -> usize
     requires { ⌜ checked (now b) ≡ Sound image ⌝ }
     requires { ⌜ Pairs (image .nodes) (now pairs) ⌝ }
     requires { ⌜ from + length (nodeLines (parentsIn (now b)) (now pairs)) ≤ length (now text) ⌝ }

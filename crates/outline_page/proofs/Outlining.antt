@@ -9,18 +9,23 @@ use lib.Dec.{ltb}
 use lib.ListN.{length, take, drop, replicate, length-replicate}
 use lib.Seq.{take-at}
 use Rattle.meaning.specs.declared.Answer.{Answer}
-use Rattle.meaning.specs.Answers.{refusedWith, counts, cameTo, written}
+use Rattle.meaning.specs.Answers.{refusedWith, counts, cameTo, firstHolding, written}
 use Rattle.meaning.specs.Blocks.{blocksIn, wrongBlock}
 use Rattle.meaning.specs.Image.{isImage, parentsIn}
 use Rattle.meaning.specs.Listing.{listing, deep}
-use Rattle.meaning.specs.Calls.{wrongSize, checkImage, listImage}
+use Rattle.meaning.specs.declared.Refusal.{Refusal}
+use Rattle.meaning.specs.declared.Verdict.{Verdict}
+use Rattle.meaning.specs.declared.Verdict.the-variants as Verdict
+use Rattle.meaning.specs.Tests.{checkRows}
+use Rattle.calls.specs.Calls.{checkImage, listImage}
 use Rattle.theory.proofs.Stages.{image-stages}
-use Rattle.image_found.specs.declared.Image.{Image}
+use Rattle.image_layout.specs.declared.Layout.{Layout}
+use Rattle.theory.proofs.Codes.{first-other}
 use Rattle.image_found.specs.declared.Checked.{Checked}
 use Rattle.image_found.specs.declared.Checked.the-variants.{Sound, Refused}
-use Rattle.image_found.specs.Checked.{answered, checked, imageIn}
+use Rattle.image_found.specs.Checked.{answered, checked, foundBy, layoutIn}
 use Rattle.image_found.proofs.Finding.{sound-known}
-use Rattle.image_found.proofs.Calling.{image-answered}
+use Rattle.call_check_image.proofs.Calling.{image-answered}
 use Rattle.list_measure.specs.Levels.{low, sized, sizeOf}
 use Rattle.list_measure.proofs.Levels.{listing-less}
 use Rattle.list_measure.proofs.Numbers.{low-mono, low-kids}
@@ -33,20 +38,18 @@ use Rattle.outline_page.proofs.Root.{Whole, root-whole}
 
 -- ---- a refusal has a code
 
-abbrev Coded : Checked → Type 0
-Coded (Sound i) = Unit
-Coded (Refused code place) = 0 < code
+clash : {X : Type 0} {i : Layout} {r : Refusal} → Sound i ≡ Refused r → X
+clash e = let z : _≡_ {A = ℕ} 0 1 = cc in absurd (omega arith)
 
-either : (b : Bool) (x y : Checked) → Coded x → Coded y → Coded (cond b x y)
-either true x y p q = p
-either false x y p q = q
-
-checked-coded : (bytes : List ℕ) → Coded (checked bytes)
-unfolding checked
-checked-coded bytes =
-    either (wrongSize bytes) (Refused 2 0) _ (omega arith)
-    (either (ltb (wrongBlock bytes) (blocksIn bytes)) (Refused 6 (wrongBlock bytes)) _ (omega arith)
-    (either (isImage bytes) (Sound (imageIn bytes)) (Refused 7 0) tt (omega arith)))
+checked-coded : (bytes : List ℕ) (r : Refusal) → checked bytes ≡ Refused r → r .code ≡ 0 → ⊥
+unfolding checked checkRows
+checked-coded bytes r e = by-verdict (firstHolding (checkRows bytes false)) refl e
+  where
+    by-verdict : (v : Verdict) → firstHolding (checkRows bytes false) ≡ v → foundBy v (layoutIn bytes) ≡ Refused r → r .code ≡ 0 → ⊥
+    by-verdict Verdict.Passed f g z = clash g
+    by-verdict (Verdict.Refused x) f g z =
+        let same : x ≡ r = cc in
+        first-other 0 (checkRows bytes false) (omega arith, (omega arith, (omega arith, tt))) f (ap (λ y. y .code) same ∙ z)
 
 -- ---- what is printed
 
@@ -82,20 +85,22 @@ module _ (bytes : List ℕ) where
   by-check : (c : Checked) → checked bytes ≡ c → checkImage bytes .answer ≡ answered c
   by-check c e = sym (ap (λ o. o .answer) (image-answered bytes)) ∙ ap answered e
 
-  pub outline-refused : (code place : ℕ) → checked bytes ≡ Refused code place → outlineOf bytes ≡ refusal (refusedWith code place)
-  outline-refused code place e =
-      let h = subst Coded e (checked-coded bytes) in
-      by-answer (refusedWith code place) (by-check (Refused code place) e) ∙ not-found bytes (refusedWith code place) _ _ (λ z. omega arith)
+  pub outline-refused : (r : Refusal) → checked bytes ≡ Refused r → outlineOf bytes ≡ refusal (refusedWith (r .code) (r .place))
+  outline-refused r e =
+      let answer = refusedWith (r .code) (r .place) in
+      by-answer answer (by-check (Refused r) e) ∙ not-found bytes answer _ _ (checked-coded bytes r e)
 
-  module _ (i : Image) (e : checked bytes ≡ Sound i) where
+  module _ (i : Layout) (e : checked bytes ≡ Sound i) where
     abbrev pub first : List ℕ
-    first = heading (i .nodes) (i .marks) (i .blocks)
+    first = heading (i .nodes) (i .runs) (i .blocks)
 
     abbrev counted : Answer
-    counted = counts (i .nodes) (i .marks)
+    counted = counts (i .nodes) (i .runs)
 
-    top-is : heading (i .nodes) (i .marks) (blocksIn bytes) ≡ first
-    top-is = ap (λ j. heading (i .nodes) (i .marks) (j .blocks)) (sym (sound-known bytes i e .read))
+    top-is : heading (i .nodes) (i .runs) (blocksIn bytes) ≡ first
+    top-is =
+        let k = sound-known bytes i e in
+        ap (λ b. heading (i .nodes) (i .runs) b) (image-stages bytes (k .image) .header .needed ∙ ap (λ j. j .blocks) (sym (k .read)))
 
     pub outline-many : 4000 < i .nodes → outlineOf bytes ≡ first
     outline-many h = by-answer counted (by-check (Sound i) e) ∙ many bytes counted _ _ refl h ∙ top-is

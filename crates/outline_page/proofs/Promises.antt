@@ -15,8 +15,9 @@ use Rattle.meaning.specs.Blocks.{wrongBlock}
 use Rattle.meaning.specs.Image.{imageOfString, image, isImage, parentsIn}
 use Rattle.meaning.specs.Questions.{answer}
 use Rattle.meaning.specs.Listing.{listing, deep}
-use Rattle.meaning.specs.Answers.{refusedWith, settle, written}
-use Rattle.meaning.specs.Calls.{wrongSize, checkRows, checkImage, listImage}
+use Rattle.meaning.specs.Answers.{refusedWith, firstHolding, settle, written}
+use Rattle.meaning.specs.Tests.{wrongSize, checkRows}
+use Rattle.calls.specs.Calls.{checkImage, listImage}
 use Rattle.theory.specs.Walks.{root, everything, Lists, AllBelow, FirstAt}
 use Rattle.theory.proofs.Settled.{or-first, or-second, unequal, beyond}
 use Rattle.theory.proofs.Parents.{parents-are}
@@ -42,7 +43,7 @@ only-the-refusal bytes h = by-answer bytes (checkImage bytes .answer) refl ∙ n
 
 pub too-many-bytes : P.TooManyBytes
 unfolding refusal decimal digits
-too-many-bytes bytes h = outline-refused bytes 2 0 (sym (found-size bytes wrong))
+too-many-bytes bytes h = outline-refused bytes (record { code = 2; place = 0 }) (sym (found-size bytes wrong))
   where
     wrong : wrongSize bytes ≡ true
     wrong = elim (decLt 53 (length bytes / 512)) [
@@ -135,5 +136,5 @@ only-the-first-too-deep t few deeper = too-deep t few deeper
 -- ---- the example
 
 pub tree-t : P.TreeT
-unfolding outlineOf printed heading nodeLines nodeLine refusal decimal digits checkRows checkImage listImage settle stringOf imageOfString isImage parentsIn wrongBlock listing deep answer
+unfolding outlineOf printed heading nodeLines nodeLine refusal decimal digits checkRows checkImage listImage firstHolding settle stringOf imageOfString isImage parentsIn wrongBlock listing deep answer
 tree-t = refl

@@ -13,7 +13,7 @@ use Rattle.theory.proofs.Forms.{length-parents}
 use Rattle.theory.proofs.TreeImages.{is-image, parents-in}
 use Rattle.theory.proofs.Addresses.{first-node}
 use Rattle.theorems.proofs.Promises.{own-listing}
-use Rattle.image_found.specs.declared.Image.{Image}
+use Rattle.image_layout.specs.declared.Layout.{Layout}
 use Rattle.image_found.specs.declared.Checked.the-variants.{Sound}
 use Rattle.image_found.specs.Checked.{checked}
 use Rattle.image_found.proofs.Finding.{sound-known}
@@ -68,7 +68,7 @@ tree-whole t some e =
       nodes = lists-pairs t (depth v) (everything v) pairs lists (own .0 .0 e);
     }
 
-pub root-whole : (bytes : List ℕ) (i : Image) → checked bytes ≡ Sound i → 1 ≤ i .nodes
+pub root-whole : (bytes : List ℕ) (i : Layout) → checked bytes ≡ Sound i → 1 ≤ i .nodes
     → deep (listing 65 (parentsIn bytes) 1 0) ≡ 0 → Whole (i .nodes) (listing 65 (parentsIn bytes) 1 0)
 root-whole bytes i found some e =
     let r = is-image bytes .0 (sound-known bytes i found .image) in

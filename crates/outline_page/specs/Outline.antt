@@ -7,7 +7,7 @@ use lib.ListN.{replicate}
 use Rattle.meaning.specs.declared.Answer.{Answer}
 use Rattle.meaning.specs.Blocks.{blocksIn}
 use Rattle.meaning.specs.Image.{parentsIn}
-use Rattle.meaning.specs.Calls.{checkImage, listImage}
+use Rattle.calls.specs.Calls.{checkImage, listImage}
 use Rattle.outline_heading.specs.Lines.{heading, nodeLines, refusal}
 
 -- after the check and the listing of the root: the heading alone if n is over 4,000, the heading and the nodes, or the refusal alone

@@ -8,7 +8,7 @@ use Rattle.meaning.specs.Blocks.{blocksIn}
 use Rattle.meaning.specs.Strings.{stringOf}
 use Rattle.meaning.specs.Image.{imageOfString, image}
 use Rattle.meaning.specs.Answers.{refusedWith}
-use Rattle.meaning.specs.Calls.{checkImage}
+use Rattle.calls.specs.Calls.{checkImage}
 use Rattle.theory.specs.Rank.{withChildren}
 use Rattle.theory.specs.Walks.{root, nodeAt, Number, everything, AllBelow, FirstAt}
 use Rattle.outline_text.specs.Text.{ascii}

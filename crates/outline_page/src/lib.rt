@@ -7,7 +7,7 @@ ghost use Rattle.outline_page.specs.Outline.{outlineOf};
 use call_list::list;
 use check_image::check;
 use image_found::Checked;
-use image_found::refusal_of;
+use image_found::answer_of;
 use outline_heading::put_heading;
 use outline_heading::put_refusal;
 use outline_nodes::put_nodes;
@@ -24,7 +24,7 @@ pub fn outline(b: &[u8], pairs: &mut [u32], text: &mut [u8]) -> usize
 {
     let found = check(b);
     let Checked::Sound(image) = found else {
-        return put_refusal(text, refusal_of(found));
+        return put_refusal(text, answer_of(found));
     };
     let nodes = image.nodes;
     if MOST_LISTED < nodes {

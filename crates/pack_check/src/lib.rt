@@ -5,18 +5,24 @@ ghost use lib.ListN.{length};
 ghost use lib.Seq.{sets};
 ghost use Rattle.meaning.specs.Bytes.{bitsFrom};
 ghost use Rattle.meaning.specs.Packs.{sizes, starts};
-ghost use Rattle.pack_check.specs.Rows.{alone, firstOf, over, packRows, placeIn, treesIn};
-ghost use Rattle.pack_check.specs.declared.Held.the-variants.{Trees};
+ghost use Rattle.meaning.specs.Answers.{firstHolding};
+ghost use Rattle.meaning.specs.Tests.{packRows};
+ghost use Rattle.meaning.specs.declared.Verdict.the-variants.{Passed};
+ghost use Rattle.pack_check.specs.Scanned.{placeIn, treesIn};
 ghost use Rattle.pack_scan.specs.Found.{found, foundOf};
 use meaning::LEFTOVER_SET;
 use meaning::NOT_STRING;
 use meaning::OTHER_TREES;
+use meaning::Verdict;
 use pack_scan::Pack;
 use pack_scan::scan_trees;
-use string_end::FALLS;
 use string_read::leftover_set;
+use string_skip::table_of_falls;
+use table_answers::row;
+use table_answers::upper;
 
-// The same, with one copy of the table for all trees.
+// Scans a pack with one copy of the table of falls for all its trees, and notes the first bit and the
+// node count of each tree for which the lists have an entry.
 pub fn scan_pack(b: &[u8], n: usize, firsts: &mut [u32], counts: &mut [u32]) -> Pack
     requires { ⌜ n ≤ 8 * length (now b) ⌝ }
     requires { ⌜ n ≤ 131071 ⌝ }
@@ -24,34 +30,8 @@ pub fn scan_pack(b: &[u8], n: usize, firsts: &mut [u32], counts: &mut [u32]) -> 
     ensures { λ _. ⌜ now (firsts .exit) ≡ sets (now (firsts .entry)) 0 (starts (bitsFrom (now (b .entry)) 0 n)) ⌝ }
     ensures { λ _. ⌜ now (counts .exit) ≡ sets (now (counts .entry)) 0 (sizes (bitsFrom (now (b .entry)) 0 n)) ⌝ }
 {
-    let falls = FALLS;
+    let falls = table_of_falls();
     scan_trees(b, n, &falls, firsts, counts)
-}
-
-// As many trees as there should be, or a code and its place.
-pub enum Held {
-    Trees,
-    Refused { code: u32, place: u32 },
-}
-
-// A row of the table by itself.
-fn row(holds: bool, code: u32, place: u32) -> Held
-    ensures { λ r. ⌜ r ≡ alone holds code place ⌝ }
-{
-    if holds {
-        return Held::Refused { code, place };
-    }
-    Held::Trees
-}
-
-// Of two rows, the upper one wins.
-fn upper(first: Held, second: Held) -> Held
-    ensures { λ r. ⌜ r ≡ over first second ⌝ }
-{
-    match first {
-        Held::Refused { code, place } => Held::Refused { code, place },
-        Held::Trees => second,
-    }
 }
 
 // The bit at which a pack is refused: 0 if it is not.
@@ -74,14 +54,22 @@ fn trees_in(pack: Pack) -> u32
     }
 }
 
-// Do the first n bits hold so many trees? If they do, their first bits and node counts are noted as the scan notes them.
-pub fn trees_held(b: &[u8], n: usize, trees: usize, firsts: &mut [u32], counts: &mut [u32]) -> Held
+// What is wrong with the first n bits as a pack of so many trees: a leftover bit, a bit that begins no
+// strings, or another number of trees. If nothing is, the first bit and the node count of each tree
+// for which the lists have an entry are noted.
+pub fn check_and_note(
+    b: &[u8],
+    n: usize,
+    trees: usize,
+    firsts: &mut [u32],
+    counts: &mut [u32],
+) -> Verdict
     requires { ⌜ n ≤ 8 * length (now b) ⌝ }
     requires { ⌜ n ≤ 131071 ⌝ }
     requires { ⌜ trees ≤ 256 ⌝ }
-    ensures { λ r. ⌜ r ≡ firstOf (packRows (now (b .entry)) n trees) ⌝ }
-    ensures { λ r. ⌜ (r ≡ Trees → now (firsts .exit) ≡ sets (now (firsts .entry)) 0 (starts (bitsFrom (now (b .entry)) 0 n))) ⌝ }
-    ensures { λ r. ⌜ (r ≡ Trees → now (counts .exit) ≡ sets (now (counts .entry)) 0 (sizes (bitsFrom (now (b .entry)) 0 n))) ⌝ }
+    ensures { λ r. ⌜ r ≡ firstHolding (packRows (now (b .entry)) n trees) ⌝ }
+    ensures { λ r. ⌜ (r ≡ Passed → now (firsts .exit) ≡ sets (now (firsts .entry)) 0 (starts (bitsFrom (now (b .entry)) 0 n))) ⌝ }
+    ensures { λ r. ⌜ (r ≡ Passed → now (counts .exit) ≡ sets (now (counts .entry)) 0 (sizes (bitsFrom (now (b .entry)) 0 n))) ⌝ }
 {
     let leftover = row(leftover_set(b, n), LEFTOVER_SET, 0);
     let pack = scan_pack(b, n, firsts, counts);
@@ -93,14 +81,15 @@ pub fn trees_held(b: &[u8], n: usize, trees: usize, firsts: &mut [u32], counts: 
     upper(leftover, upper(string, count))
 }
 
-// The same, where nobody asks where the trees begin and how large they are.
-pub fn holds_trees(b: &[u8], n: usize, trees: usize) -> Held
+// What is wrong with the first n bits as a pack of so many trees, where nobody asks where the trees
+// begin and how large they are.
+pub fn check_pack(b: &[u8], n: usize, trees: usize) -> Verdict
     requires { ⌜ n ≤ 8 * length (now b) ⌝ }
     requires { ⌜ n ≤ 131071 ⌝ }
     requires { ⌜ trees ≤ 256 ⌝ }
-    ensures { λ r. ⌜ r ≡ firstOf (packRows (now (b .entry)) n trees) ⌝ }
+    ensures { λ r. ⌜ r ≡ firstHolding (packRows (now (b .entry)) n trees) ⌝ }
 {
     let mut no_firsts = [0u32; 0];
     let mut no_counts = [0u32; 0];
-    trees_held(b, n, trees, &mut no_firsts, &mut no_counts)
+    check_and_note(b, n, trees, &mut no_firsts, &mut no_counts)
 }

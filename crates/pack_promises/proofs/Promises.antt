@@ -16,12 +16,13 @@ use Rattle.meaning.specs.Bytes.{bit, bitAt, bitsFrom, bytesFor, leftover, packe
 use Rattle.meaning.specs.Scan.{many, Small, place}
 use Rattle.meaning.specs.Packs.{startsOf, sizesOf, sizes, starts}
 use Rattle.meaning.specs.declared.Answer.{Answer}
-use Rattle.meaning.specs.Answers.{Row, _at_when_, refusedWith, counts, cameTo, settle, written, tooShort}
-use Rattle.meaning.specs.Calls.{wrongCount, parentsOfString, splitPack, joinPack}
+use Rattle.meaning.specs.Answers.{Row, _at_when_, counts, cameTo, alone, over, settle, written, tooShort}
+use Rattle.meaning.specs.Tests.{wrongCount, wrongToSplit, wrongToJoin, packRows}
+use Rattle.calls.specs.Calls.{parentsOfString, splitPack, joinPack}
 use Rattle.theory.specs.Rows.{NoneHolds}
 use Rattle.theory.specs.Layout.{AreBytes}
 use Rattle.theory.specs.Changes.{changed}
-use Rattle.theory.proofs.Settled.{unequal, settle-on}
+use Rattle.theory.proofs.Settled.{unequal, first-alone, settle-on, settle-append}
 use Rattle.theory.proofs.Codes.{neither, not-unequal, listed-tree, Others}
 use Rattle.theory.proofs.Parents.{parents-are}
 use Rattle.theory.proofs.Lowest.{parents-badEntry}
@@ -32,8 +33,8 @@ use Rattle.theory.proofs.Packs.{string-length, sizes-are, starts-are, found-is,
 use Rattle.theorems.proofs.Promises.{pack-accepted, odd-changes}
 use Rattle.table_sizes.specs.ToSplit as ToSplit
 use Rattle.table_sizes.specs.ToJoin as ToJoin
-use Rattle.table_sizes.proofs.ToSplit as SplitSizes
-use Rattle.table_sizes.proofs.ToJoin as JoinSizes
+use Rattle.table_sizes.proofs.ToSplit as SplitLaws
+use Rattle.table_sizes.proofs.ToJoin as JoinLaws
 use Rattle.bits_append.specs.Appended.{appended}
 use Rattle.bits_append.proofs.Appending.{appended-length, appended-bytes, appended-new, appended-read}
 use Rattle.string_promises.proofs.Reading.{read-done, never-among}
@@ -42,10 +43,8 @@ use Rattle.pack_scan.specs.declared.Pack.the-variants as Scan
 use Rattle.pack_scan.specs.Found.{trees, refused, found}
 use Rattle.pack_scan.proofs.Parts.{starts-length}
 use Rattle.pack_scan.proofs.Telling.{found-refused}
-use Rattle.pack_check.specs.declared.Held.the-variants.{Trees, Refused}
-use Rattle.pack_check.specs.Rows.{packRows, firstOf, alone, over}
-use Rattle.pack_check.specs.Numbers.{heldOutcome}
 use Rattle.pack_check.proofs.Rows.{held, held-trees}
+use Rattle.pack_scan.specs.Numbers.{packRow}
 use Rattle.call_split.proofs.Splitting.{split-made}
 use Rattle.call_join.proofs.Joining.{join-done}
 use Rattle.pack_promises.specs.Promises.{HoldsPack, longer, RoomToJoin, joinAll}
@@ -142,7 +141,7 @@ trees-of {wrong} {bytes} {L} {k} d =
     }
 
 pub pack-accepted-exactly : P.PackAcceptedExactly
-unfolding splitPack packRows
+unfolding splitPack packRows wrongToSplit
 pack-accepted-exactly bytes L k firsts sizesOut b = (
   λ e.
       let bits = bitsFrom bytes 0 L in
@@ -233,7 +232,7 @@ join-adds-tree pack ts t h r =
     )
 
 pub joined-exactly : P.JoinedExactly
-unfolding joinPack packRows
+unfolding joinPack packRows wrongToJoin
 joined-exactly pack L k ps = (
   λ e.
       let bits = bitsFrom pack 0 L in
@@ -336,34 +335,27 @@ join-then-split ts pack firsts sizesOut f b room roomFirsts roomSizes =
 
 -- ---- by what is found
 
-settle-held : {A : Type 0} (before : A) (rest : List Row) (a : Answer) (after : A) (rs : List Row)
-    → settle before (rs ++ rest) a after ≡ heldOutcome (firstOf rs) before (settle before rest a after)
-unfolding settle firstOf
-settle-held before rest a after [] = refl
-settle-held before rest a after (r ∷ rs) = go (r .holds) (settle-held before rest a after rs)
-  where
-    go : (b : Bool) → settle before (rs ++ rest) a after ≡ heldOutcome (firstOf rs) before (settle before rest a after)
-        → cond b (cameTo (refusedWith (r .code) (r .place)) before) (settle before (rs ++ rest) a after)
-        ≡ heldOutcome (cond b (Refused (r .code) (r .place)) (firstOf rs)) before (settle before rest a after)
-    go true e = refl
-    go false e = e
-
 pub split-by-held : P.SplitByHeld
-unfolding splitPack packRows ToSplit.wrongSizes
+unfolding splitPack
 split-by-held bytes L k firsts sizesOut z =
-    settle-on _ _ _ _ _ (SplitSizes.none-wrong (length bytes) L k z) ∙ settle-held (firsts, sizesOut) _ _ _ (packRows bytes L k)
+    settle-on _ _ _ _ _ (SplitLaws.none-wrong (length bytes) L k z) ∙ settle-append (firsts, sizesOut) _ _ (packRows bytes L k) _
 
 pub join-by-held : P.JoinByHeld
-unfolding joinPack packRows ToJoin.wrongSizes
-join-by-held pack L k ps z = settle-on _ _ _ _ _ (JoinSizes.none-wrong (length pack) L k (length ps) z) ∙ settle-held pack _ _ _ (packRows pack L k)
+unfolding joinPack
+join-by-held pack L k ps z =
+    settle-on _ _ _ _ _ (JoinLaws.none-wrong (length pack) L k (length ps) z) ∙ settle-append pack _ _ (packRows pack L k) _
 
 pub held-by-scan : P.HeldByScan
-unfolding firstOf
 held-by-scan bytes L k (Scan.Refused x) clean e =
     let some = found-refused (bitsFrom bytes 0 L) e .1 in
+    let other = alone (10 at 0 when not (eqb 0 k)) in
     sym (held bytes L k (Scan.Refused x) e)
-    ∙ ap₂ (λ l b. over (alone l 5 0) (over (alone b 4 x) (alone (not (eqb 0 k)) 10 0))) clean (unequal x 0 (λ z. omega arith))
-held-by-scan bytes L k (Scan.Trees n) clean e = sym (held bytes L k (Scan.Trees n) e) ∙ ap (λ l. over (alone l 5 0) (alone (not (eqb n k)) 10 n)) clean
+    ∙ ap₂ (λ l b. over (alone (5 at 0 when l)) (over (alone (4 at x when b)) other)) clean (unequal x 0 (λ z. omega arith))
+    ∙ sym (first-alone (packRow (Scan.Refused x) k))
+held-by-scan bytes L k (Scan.Trees n) clean e =
+    sym (held bytes L k (Scan.Trees n) e)
+    ∙ ap (λ l. over (alone (5 at 0 when l)) (alone (10 at n when not (eqb n k)))) clean
+    ∙ sym (first-alone (packRow (Scan.Trees n) k))
 
 -- ---- damage
 

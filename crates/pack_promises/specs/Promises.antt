@@ -13,8 +13,9 @@ use Rattle.meaning.specs.Strings.{strings, stringOf}
 use Rattle.meaning.specs.Bytes.{bitsFrom, bytesFor, leftover, packed}
 use Rattle.meaning.specs.Scan.{Small}
 use Rattle.meaning.specs.Packs.{startsOf, sizesOf, sizes, starts}
-use Rattle.meaning.specs.Answers.{_at_when_, Outcome, counts, cameTo, settle, written, tooShort}
-use Rattle.meaning.specs.Calls.{parentsOfString, splitPack, joinPack}
+use Rattle.meaning.specs.Answers.{_at_when_, Outcome, counts, cameTo, firstHolding, unlessRefused, settle, written, tooShort}
+use Rattle.meaning.specs.Tests.{packRows}
+use Rattle.calls.specs.Calls.{parentsOfString, splitPack, joinPack}
 use Rattle.theory.specs.Layout.{AreBytes}
 use Rattle.theory.specs.Changes.{changed}
 use Rattle.table_sizes.specs.ToSplit as ToSplit
@@ -22,8 +23,6 @@ use Rattle.table_sizes.specs.ToJoin as ToJoin
 use Rattle.pack_scan.specs.declared.Pack.{Pack}
 use Rattle.pack_scan.specs.Found.{found, foundOf}
 use Rattle.pack_scan.specs.Numbers.{packRow}
-use Rattle.pack_check.specs.Rows.{packRows, firstOf}
-use Rattle.pack_check.specs.Numbers.{heldOutcome}
 
 -- ---- Splitting.
 
@@ -128,18 +127,18 @@ joinLast pack L k ps =
 
 -- where the sizes are right, splitting comes to the numbers of what the pack is refused for
 abbrev pub SplitByHeld : Type 0
-SplitByHeld = (bytes : List ℕ) (L k : ℕ) (firsts sizes : List ℕ) → ToSplit.Sized (length bytes) L k
-    → splitPack bytes L k firsts sizes ≡ heldOutcome (firstOf (packRows bytes L k)) (firsts, sizes) (splitLast bytes L k firsts sizes)
+SplitByHeld = (bytes : List ℕ) (L k : ℕ) (firsts sizes : List ℕ) → ToSplit.SplitSized (length bytes) L k
+    → splitPack bytes L k firsts sizes ≡ unlessRefused (firsts, sizes) (firstHolding (packRows bytes L k)) (splitLast bytes L k firsts sizes)
 
 -- and so does joining
 abbrev pub JoinByHeld : Type 0
-JoinByHeld = (pack : List ℕ) (L k : ℕ) (ps : List ℕ) → ToJoin.Sized (length pack) L k (length ps)
-    → joinPack pack L k ps ≡ heldOutcome (firstOf (packRows pack L k)) pack (joinLast pack L k ps)
+JoinByHeld = (pack : List ℕ) (L k : ℕ) (ps : List ℕ) → ToJoin.JoinSized (length pack) L k (length ps)
+    → joinPack pack L k ps ≡ unlessRefused pack (firstHolding (packRows pack L k)) (joinLast pack L k ps)
 
 -- where no leftover bit is set, these are the numbers of what the scan finds
 abbrev pub HeldByScan : Type 0
 HeldByScan = (bytes : List ℕ) (L k : ℕ) (pack : Pack) → leftover bytes L ≡ false → foundOf pack ≡ found (bitsFrom bytes 0 L)
-    → firstOf (packRows bytes L k) ≡ firstOf (packRow pack k ∷ [])
+    → firstHolding (packRows bytes L k) ≡ firstHolding (packRow pack k ∷ [])
 
 -- ---- Damage.
 

@@ -36,7 +36,3 @@ found-refused bs {x} e = go (eqb (place many bs) 0) refl
         let p : place many bs ≡ x = cc in
         let n : place many bs ≡ 0 → ⊥ = eqb-false (place many bs) 0 f in
         (p, omega arith)
-
--- what a call comes to with an answer, it comes to with an equal one
-pub answered : {A : Type 0} {r s : Answer} {lent : A} {o : Outcome A} → r ≡ s → cameTo s lent ≡ o → cameTo r lent ≡ o
-answered {A} {r} {s} {lent} e f = ap (λ a. cameTo a lent) e ∙ f

@@ -1,15 +1,37 @@
 // The scan of a pack, tree after tree.
 ghost use mathlib.Core.Path.{_≡_};
-ghost use Prim.Native.Nat.{_*_, _≤_};
-ghost use lib.ListN.{length};
+ghost use Prim.Native.Nat.{_≤_, _*_};
+ghost use lib.ListN.{length, set, take};
 ghost use lib.Seq.{sets};
+ghost use Rattle.meaning.specs.Answers.{written};
 ghost use Rattle.meaning.specs.Bytes.{bitsFrom};
 ghost use Rattle.meaning.specs.Packs.{sizes, starts};
-ghost use Rattle.falls.specs.Falls.{Falls};
+ghost use Rattle.string_skip.specs.Falls.{Falls};
 ghost use Rattle.pack_scan.specs.Found.{found, foundOf};
-use noting::note;
 use string_end::TreeEnd;
 use string_end::tree_end_by;
+
+// Stores entry k, where the list has one.
+fn note(list: &mut [u32], k: usize, x: u32)
+    ensures { λ _. ⌜ now (list .exit) ≡ set (now (list .entry)) k x ⌝ }
+{
+    if k < list.len() {
+        list[k] = x;
+    }
+}
+
+// Writes the first k entries of a list to the front of another.
+pub fn hand_over(list: &[u32], k: usize, out: &mut [u32])
+    requires { ⌜ k ≤ length (now list) ⌝ }
+    requires { ⌜ k ≤ length (now out) ⌝ }
+    ensures { λ _. ⌜ now (out .exit) ≡ written (take k (now (list .entry))) (now (out .entry)) ⌝ }
+{
+    let mut i: usize = 0;
+    while i < k {
+        out[i] = list[i];
+        i += 1;
+    }
+}
 
 // What the bits of a pack hold: so many trees, or the bit at which they are refused.
 pub enum Pack {

@@ -1,13 +1,15 @@
 -- The promises are kept.
-use mathlib.Core.Path.{_≡_, refl, sym, ap, _∙_}
+use mathlib.Core.Path.{_≡_, refl, sym, ap, _∙_, subst}
 use mathlib.Core.Bool.{Bool, true, false, cond}
 use mathlib.Core.List.{List, [], _∷_}
 use mathlib.Core.Logic.{_⊎_, inl, inr}
 use Prim.Native.Nat.{ℕ}
 use Rattle.meaning.specs.declared.Answer.{Answer}
 use Rattle.meaning.specs.Answers.{Row, Outcome, counts, refusedWith, cameTo, settle}
-use Rattle.meaning.specs.Cases.{string-of-parents, parents-of-string, image-of-parents, parents-of-image, check-image, ask, list, split, join, does}
-use Rattle.meaning.specs.Calls.{stringOfParents, parentsOfString, imageOfParents, checkRows, checkImage, parentsOfImage, askImage, listImage, splitPack, joinPack}
+use Rattle.calls.specs.Calls.{string-of-parents, parents-of-string, image-of-parents, parents-of-image, check-image, ask, list, split, join, does}
+use Rattle.meaning.specs.Tests.{parentRows, checkRows, packRows}
+use Rattle.calls.specs.Calls.{stringOfParents, parentsOfString, imageOfParents, checkImage, parentsOfImage, askImage, listImage, splitPack, joinPack}
+use Rattle.theory.proofs.Settled.{settle-here, settle-on, settle-none}
 use Rattle.theorems.proofs.Promises as Theory
 use Rattle.string_promises.proofs.Promises as Strings
 use Rattle.pack_promises.proofs.Promises as Packs
@@ -37,12 +39,21 @@ refused-or before r es rest true w = record { is = inr (inl (refl, refl), refl, 
 refused-or before r es rest false (inl w) = record { is = inl w }
 refused-or before r es rest false (inr w) = record { is = inr (inr (w .0), w .1, w .2, w .3) }
 
+by-row : {A : Type 0} (before : A) (a : Answer) (after : A) (r : Row) (rs : List Row)
+    → settle before (r ∷ rs) a after ≡ cond (r .holds) (cameTo (refusedWith (r .code) (r .place)) before) (settle before rs a after)
+by-row before a after r rs = go (r .holds) refl
+  where
+    go : (b : Bool) → r .holds ≡ b → settle before (r ∷ rs) a after ≡ cond b (cameTo (refusedWith (r .code) (r .place)) before) (settle before rs a after)
+    go true e = settle-here before a after r rs e
+    go false e = settle-on before a after r rs e
+
 settle-placed : {A : Type 0} (before : A) (first second : ℕ) (after : A) (rs : List Row)
     → Settled before (placed rs) (settle before rs (counts first second) after)
-unfolding settle
-settle-placed before first second after [] = record { is = inl (refl, refl) }
+settle-placed before first second after [] =
+    subst (Settled before []) (sym (settle-none before (counts first second) after)) (record { is = inl (refl, refl) })
 settle-placed before first second after (r ∷ rs) =
-    refused-or before r (placed rs) (settle before rs (counts first second) after) (r .holds) (settle-placed before first second after rs .is)
+    subst (Settled before (placed (r ∷ rs))) (sym (by-row before (counts first second) after r rs))
+    (refused-or before r (placed rs) (settle before rs (counts first second) after) (r .holds) (settle-placed before first second after rs .is))
 
 -- with the lent lists as a list of them
 settled : {A : Type 0} (before : A) (lists : A → List (List ℕ)) (es : List (ℕ × ℕ)) (o : Outcome A) → Settled before es o
@@ -54,7 +65,7 @@ settled before lists es o w = go (w .is)
     go (inr r) = inr (r .0, r .1, r .2, ap lists (r .3))
 
 done-or-refused : P.DoneOrRefused
-unfolding does stringOfParents parentsOfString imageOfParents checkRows checkImage parentsOfImage askImage listImage splitPack joinPack
+unfolding does stringOfParents parentsOfString imageOfParents parentRows checkRows packRows checkImage parentsOfImage askImage listImage splitPack joinPack
 done-or-refused (string-of-parents ps out) = settled out (λ x. x ∷ []) _ (stringOfParents ps out) (settle-placed _ _ _ _ _)
 done-or-refused (parents-of-string bytes L out) = settled out (λ x. x ∷ []) _ (parentsOfString bytes L out) (settle-placed _ _ _ _ _)
 done-or-refused (image-of-parents ps out) = settled out (λ x. x ∷ []) _ (imageOfParents ps out) (settle-placed _ _ _ _ _)

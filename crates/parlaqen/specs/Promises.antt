@@ -16,7 +16,7 @@ use Rattle.meaning.specs.Image.{parentsIn}
 use Rattle.meaning.specs.Questions.{questions, notAllowed}
 use Rattle.meaning.specs.Listing.{listing, deep}
 use Rattle.meaning.specs.Answers.{Outcome, cameTo}
-use Rattle.meaning.specs.Cases.{Call, string-of-parents, parents-of-string, image-of-parents, parents-of-image, check-image, ask, list, split, join, does}
+use Rattle.calls.specs.Calls.{Call, string-of-parents, parents-of-string, image-of-parents, parents-of-image, check-image, ask, list, split, join, does}
 use Rattle.theorems.specs.Promises as Theory
 use Rattle.string_promises.specs.Promises as Strings
 use Rattle.pack_promises.specs.Promises as Packs

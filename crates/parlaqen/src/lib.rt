@@ -1,7 +1,7 @@
 // The nine public calls, for C and Rust: include/parlaqen.h declares them. Each is one call of its layer, with the same contract.
 ghost use mathlib.Core.Path.{_≡_};
 ghost use Rattle.meaning.specs.Answers.{cameTo};
-ghost use Rattle.meaning.specs.Calls.{stringOfParents, parentsOfString, imageOfParents, parentsOfImage, checkImage, askImage, listImage, splitPack, joinPack};
+ghost use Rattle.calls.specs.Calls.{stringOfParents, parentsOfString, imageOfParents, parentsOfImage, checkImage, askImage, listImage, splitPack, joinPack};
 use meaning::Answer;
 
 #[no_mangle]
@@ -36,7 +36,7 @@ pub extern "C" fn plq_parents_of_image(image: &[u8], parents: &mut [u32]) -> Ans
 pub extern "C" fn plq_check_image(image: &[u8]) -> Answer
     ensures { λ r. ⌜ cameTo r tt ≡ checkImage (now (image .entry)) ⌝ }
 {
-    check_image::check_image(image)
+    call_check_image::check_image(image)
 }
 
 #[no_mangle]

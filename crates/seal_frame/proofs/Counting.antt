@@ -15,7 +15,7 @@ use Rattle.theory.proofs.Packing.{bits-length, bits-at}
 use Rattle.theory.proofs.InBlocks.{no-string, string-ones-le, stringIn-take, full-more}
 use Rattle.bits_count.proofs.Runs.{bits-ones-le}
 use Rattle.image_words.specs.Words.{withWord}
-use Rattle.seal_frame.specs.Passes.{Counted}
+use Rattle.seal_frame.specs.Passes.{CountsWritten}
 use Rattle.seal_r1.proofs.Placing.{bit-agree, word-agree, put-length, put-word, put-byte}
 
 -- ---- bytes cleared
@@ -49,7 +49,7 @@ module _ (old out : List ℕ) (from n c j : ℕ) (k : Counting old out from n c 
   pub counting-few : c ≤ 4000 * j
   counting-few = omega (arith, k .sum, string-ones-le old from (4000 * j))
 
-  pub counting-last : stringBlocks n ≤ j → Counted old out from n
+  pub counting-last : stringBlocks n ≤ j → CountsWritten old out from n
   counting-last l = record {
     counts = λ i h. k .counts i (omega arith) ∙ ap (λ s. ones s) (sym (stringIn-take old from (4000 * i) n (omega arith)));
     apart = k .apart;

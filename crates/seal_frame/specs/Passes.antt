@@ -12,7 +12,7 @@ use Rattle.seal_frame.specs.Filled.{Filled}
 
 -- ---- the counts of earlier ones, for the string of n bits that stands from block `from` on
 
-pub record Counted (old bytes : List ℕ) (from n : ℕ) : Type 0 where
+pub record CountsWritten (old bytes : List ℕ) (from n : ℕ) : Type 0 where
   pub counts : (j : ℕ) → j < stringBlocks n → wordAt bytes (512 * (from + j)) ≡ ones (take (4000 * j) (stringIn old from 0 n))
   pub apart : (q : ℕ) → (512 * from ≤ q → q < 512 * (from + stringBlocks n) → 4 ≤ q % 512) → getD bytes q 0 ≡ getD old q 0
 

@@ -4,7 +4,8 @@ ghost use mathlib.Core.List.{_++_};
 ghost use Prim.Native.Nat.{_+_, _*_, _≤_};
 ghost use lib.ListN.{length, drop, replicate};
 ghost use Rattle.meaning.specs.Image.{stringBlocks};
-ghost use Rattle.seal_frame.specs.Passes.{Counted, headed};
+ghost use Rattle.seal_frame.specs.Passes.{CountsWritten, headed};
+use image_layout::Layout;
 
 // The first so many bytes become 0.
 pub fn clear(image: &mut [u8], bytes: usize)
@@ -23,7 +24,7 @@ pub fn put_counts(image: &mut [u8], from: usize, n: usize)
     requires { ⌜ from ≤ 53 ⌝ }
     requires { ⌜ n ≤ 65536 ⌝ }
     requires { ⌜ 512 * (from + stringBlocks n) ≤ length (now image) ⌝ }
-    ensures { λ _. ⌜ Counted (now (image .entry)) (now (image .exit)) from n ⌝ }
+    ensures { λ _. ⌜ CountsWritten (now (image .entry)) (now (image .exit)) from n ⌝ }
 {
     let end = image_layout::string_blocks(n);
     let mut c: u32 = 0;
@@ -37,12 +38,12 @@ pub fn put_counts(image: &mut [u8], from: usize, n: usize)
 }
 
 // The four words of the header.
-pub fn put_header(image: &mut [u8], n: u32, m: u32, blocks: u32)
+pub fn put_header(image: &mut [u8], layout: Layout)
     requires { ⌜ 512 ≤ length (now image) ⌝ }
-    ensures { λ _. ⌜ now (image .exit) ≡ headed (now (image .entry)) n m blocks ⌝ }
+    ensures { λ _. ⌜ now (image .exit) ≡ headed (now (image .entry)) (layout .nodes) (layout .runs) (layout .blocks) ⌝ }
 {
     image_words::put_word(image, 0, 1);
-    image_words::put_word(image, 4, n);
-    image_words::put_word(image, 8, m);
-    image_words::put_word(image, 12, blocks);
+    image_words::put_word(image, 4, layout.nodes);
+    image_words::put_word(image, 8, layout.runs);
+    image_words::put_word(image, 12, layout.blocks);
 }

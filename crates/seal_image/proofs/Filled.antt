@@ -11,7 +11,7 @@ use Rattle.meaning.specs.Strings.{Bit, O, R1, R0, stringOf}
 use Rattle.meaning.specs.Blocks.{wordBytes, words, sums, sumStart, padded, block, sealed}
 use Rattle.meaning.specs.Image.{stringBlocks, samples, sampleBlocks, imageOfParts, imageOfString}
 use Rattle.theory.specs.Layout.{AreBytes, wordAt, samplePlace, stringWord, sampleWord, startR0, startS1, startS0, total}
-use Rattle.theory.specs.Stages.{Kept}
+use Rattle.theory.specs.Stages.{CountsAndPadding}
 use Rattle.theory.proofs.Digits.{append-bytes, words-bytes, take-bytes, drop-bytes, wordAt-take, wordAt-drop}
 use Rattle.theory.proofs.Sealing.{length-sealed, sealed-word, sealed-checks, padded-bytes}
 use Rattle.theory.proofs.Images.{unlaid, parts-size}
@@ -27,13 +27,13 @@ use Rattle.seal_image.proofs.Preparing.{blocks-total}
 
 -- ---- sealed bytes are bytes
 
-sealed-bytes : (ps : List (List ℕ)) (b : ℕ) → ((j : ℕ) → j < length ps → AreBytes (getD ps j [])) → AreBytes (sealed ps b)
+sealed-bytes : (ps : List (List ℕ)) (b : ℕ) → ((j : ℕ) → j < length ps → AreBytes (getD ps j [])) → AreBytes (sealed sumStart ps b)
 unfolding sealed block
 sealed-bytes [] b h = λ i g. absurd (omega arith)
 sealed-bytes (p ∷ ps) b h =
     let q = padded p in
     let ss = sums (words q) (sumStart b) 0 in
-    append-bytes (q ++ wordBytes ss) (sealed ps (suc b))
+    append-bytes (q ++ wordBytes ss) (sealed sumStart ps (suc b))
     (append-bytes q (wordBytes ss) (padded-bytes p (h 0 (omega arith))) (words-bytes ss))
     (sealed-bytes ps (suc b) (λ j g. h (suc j) (omega arith)))
 
@@ -42,9 +42,9 @@ payload-bytes bytes k h j g =
     subst AreBytes (sym (payloadsIn-at bytes k j (omega (arith, length-payloadsIn bytes k)))) (take-bytes 504 (drop (512 * j) bytes) (drop-bytes (512 * j) bytes h))
 
 -- a payload word is where it was
-word-kept : (bytes : List ℕ) (k j w : ℕ) → j < k → w < 126 → wordAt (sealed (payloadsIn bytes k) 0) (512 * j + 4 * w) ≡ wordAt bytes (512 * j + 4 * w)
+word-kept : (bytes : List ℕ) (k j w : ℕ) → j < k → w < 126 → wordAt (sealed sumStart (payloadsIn bytes k) 0) (512 * j + 4 * w) ≡ wordAt bytes (512 * j + 4 * w)
 word-kept bytes k j w h g =
-    sealed-word (payloadsIn bytes k) j w (omega (arith, length-payloadsIn bytes k)) g
+    sealed-word sumStart (payloadsIn bytes k) j w (omega (arith, length-payloadsIn bytes k)) g
     ∙ ap (λ p. wordAt p (4 * w)) (payloadsIn-at bytes k j h)
     ∙ wordAt-take 504 (drop (512 * j) bytes) (4 * w) (omega arith) ∙ wordAt-drop (512 * j) bytes (4 * w)
 
@@ -55,8 +55,8 @@ string-words : (bytes : List ℕ) (from at S : ℕ) (r : List Bit) → AreBytes 
     → (j w : ℕ) → j < stringBlocks (length r) → w < 126 → wordAt bytes (512 * (from + j) + 4 * w) ≡ stringWord r j w
 string-words bytes from at S r are fits p c j w h g =
     let e = part-string bytes from at S r p in
-    let k : Kept bytes from r = record { counts = c; unused = λ i l m. p .bits i m ∙ List·getD-eq-default r O l } in
-    word-is bytes are from (length r) fits (subst (Kept bytes from) (sym e) k) j w h g ∙ ap (λ s. stringWord s j w) e
+    let k : CountsAndPadding bytes from r = record { counts = c; unused = λ i l m. p .bits i m ∙ List·getD-eq-default r O l } in
+    word-is bytes are from (length r) fits (subst (CountsAndPadding bytes from) (sym e) k) j w h g ∙ ap (λ s. stringWord s j w) e
 
 sample-words : (bytes : List ℕ) (from B at S : ℕ) (r : List Bit) → Part bytes from B at S r
     → (j w : ℕ) → j < S → w < 126 → wordAt bytes (512 * (at + j) + 4 * w) ≡ sampleWord r j w
@@ -67,15 +67,15 @@ sample-words bytes from B at S r p j w h g =
 -- ---- the image
 
 pub filled-image : (bytes : List ℕ) (a b : List Bit) → AreBytes bytes → 512 * total a b ≤ length bytes → length a ≤ 65535 → length b ≤ 65536
-    → Filled bytes a b → sealed (payloadsIn bytes (total a b)) 0 ≡ imageOfParts a b
+    → Filled bytes a b → sealed sumStart (payloadsIn bytes (total a b)) 0 ≡ imageOfParts a b
 filled-image bytes a b are room la lb f =
     let t = total a b in
     let ps = payloadsIn bytes t in
     let n = length-payloadsIn bytes t in
-    unlaid (sealed ps 0) a b la lb (sealed-bytes ps 0 (payload-bytes bytes t are)) (record {
-      size = length-sealed ps 0 ∙ ap (λ k. 512 * k) n;
+    unlaid (sealed sumStart ps 0) a b la lb (sealed-bytes ps 0 (payload-bytes bytes t are)) (record {
+      size = length-sealed sumStart ps 0 ∙ ap (λ k. 512 * k) n;
       sums = sealed-checks ps ∙ n;
-      head = λ w g. ap (wordAt (sealed ps 0)) (let e : 4 * w ≡ 512 * 0 + 4 * w = omega arith in e) ∙ word-kept bytes t 0 w (omega arith) g
+      head = λ w g. ap (wordAt (sealed sumStart ps 0)) (let e : 4 * w ≡ 512 * 0 + 4 * w = omega arith in e) ∙ word-kept bytes t 0 w (omega arith) g
           ∙ ap (wordAt bytes) (let e : 512 * 0 + 4 * w ≡ 4 * w = omega arith in e) ∙ f .head w g;
       inR1 = λ j w h g. word-kept bytes t (1 + j) w (omega arith) g
           ∙ string-words bytes 1 (startS1 a b) (sampleBlocks (samples a)) a are (omega arith) (f .parts .first) (f .counts1) j w (omega arith) g;
@@ -91,7 +91,7 @@ filled-image bytes a b are room la lb f =
 
 pub prepared-sealed : (old bytes ps : List ℕ) (t : ℕ) → IsParents ps → length ps ≤ 65535 → AreBytes bytes → length bytes ≡ length old → t ≡ blocksFor ps
     → 512 * t ≤ length old → Prepared old bytes ps
-    → sealed (payloadsIn bytes t) 0 ++ drop (512 * t) bytes ≡ written (imageOfString (stringOf ps)) old
+    → sealed sumStart (payloadsIn bytes t) 0 ++ drop (512 * t) bytes ≡ written (imageOfString (stringOf ps)) old
 unfolding imageOfString
 prepared-sealed old bytes ps t are most ab l e room p =
     let a = R1 (stringOf ps) in
@@ -104,5 +104,5 @@ prepared-sealed old bytes ps t are most ab l e room p =
     let same : drop (512 * t) bytes ≡ drop (512 * t) old =
     ext-getD 0 (drop (512 * t) bytes) (drop (512 * t) old) (length-drop (512 * t) bytes ∙ ap (λ n. n - 512 * t) l ∙ sym (length-drop (512 * t) old))
     (λ i h. getD-drop (512 * t) bytes i 0 ∙ p .tail (512 * t + i) (omega arith) ∙ sym (getD-drop (512 * t) old i 0)) in
-    ap₂ _++_ (ap (λ k. sealed (payloadsIn bytes k) 0) f ∙ filled-image bytes a b ab (omega arith) (omega arith) (omega arith) (p .filled))
+    ap₂ _++_ (ap (λ k. sealed sumStart (payloadsIn bytes k) 0) f ∙ filled-image bytes a b ab (omega arith) (omega arith) (omega arith) (p .filled))
     (same ∙ ap (λ k. drop k old) (let g : 512 * t ≡ length (imageOfParts a b) = omega arith in g))

@@ -9,13 +9,15 @@ use Rattle.meaning.specs.Parents.{IsParents, badEntry}
 use Rattle.meaning.specs.Strings.{Bit, ones, R1, R0, stringOf}
 use Rattle.meaning.specs.Image.{stringBlocks, samples, sampleBlocks, stringIn}
 use Rattle.theory.specs.Layout.{wordAt, startR0, startS1, startS0, total}
-use Rattle.theory.specs.Stages.{blocksOfSamples, zerosFrom, samplesFrom}
+use Rattle.theory.specs.Stages.{blocksOfSamples, r0Block, r1Samples}
 use Rattle.theory.proofs.Payloads.{ones-le, length-samples}
 use Rattle.parents_check.proofs.Rising.{good-parents}
-use Rattle.seal_r1_bits.specs.Listed.{marksIn}
-use Rattle.seal_r1.specs.Passes.{Part, blocksFor, Ready, Ran}
+use Rattle.image_layout.specs.declared.Layout.{Layout}
+use Rattle.image_layout.specs.Layout.{layoutOf}
+use Rattle.seal_r1_bits.specs.Listed.{runsIn}
+use Rattle.seal_r1.specs.Passes.{Part, blocksFor, RoomForStrings, StringsWritten}
 use Rattle.seal_frame.specs.Filled.{Counts, Filled}
-use Rattle.seal_frame.specs.Passes.{Counted, headed, Prepared}
+use Rattle.seal_frame.specs.Passes.{CountsWritten, headed, Prepared}
 use Rattle.seal_r1_bits.proofs.Entries.{sizes}
 use Rattle.seal_r1.proofs.Placing.{word-agree}
 use Rattle.seal_frame.proofs.Heading.{headed-byte, headed-word}
@@ -39,8 +41,8 @@ module _ (old : List ℕ) (k : ℕ) where
 
 -- ---- how many blocks there are
 
-pub few-marks : (ps : List ℕ) → IsParents ps → marksIn ps ≤ length ps
-few-marks ps h = omega (arith, ones-le (R1 (stringOf ps)), sizes ps h .long1)
+pub few-runs : (ps : List ℕ) → IsParents ps → runsIn ps ≤ length ps
+few-runs ps h = omega (arith, ones-le (R1 (stringOf ps)), sizes ps h .long1)
 
 samples-blocks : (r : List Bit) → sampleBlocks (samples r) ≡ blocksOfSamples (ones r)
 samples-blocks r = ap (λ k. (k + 125) / 126) (length-samples r)
@@ -57,10 +59,10 @@ part-cast bytes f B at S f′ B′ at′ S′ r e g h k p =
     subst₂ (λ x y. Part bytes x y at′ S′ r) e g (subst₂ (λ x y. Part bytes f B x y r) h k p)
 
 module _ (old cleared ran one two : List ℕ) (ps : List ℕ) (are : IsParents ps) (most : length ps ≤ 65535) (room : 512 * blocksFor ps ≤ length two)
-    (c : cleared ≡ replicate (512 * blocksFor ps) 0 ++ drop (512 * blocksFor ps) old) (r : Ran cleared ran ps)
-    (c1 : Counted ran one 1 (length ps)) (c0 : Counted one two (zerosFrom (length ps)) (length ps + 1)) where
+    (c : cleared ≡ replicate (512 * blocksFor ps) 0 ++ drop (512 * blocksFor ps) old) (r : StringsWritten cleared ran ps)
+    (c1 : CountsWritten ran one 1 (length ps)) (c0 : CountsWritten one two (r0Block (length ps)) (length ps + 1)) where
   new : List ℕ
-  new = headed two (length ps) (marksIn ps) (blocksFor ps)
+  new = headed two (length ps) (runsIn ps) (blocksFor ps)
 
   a : List Bit
   a = R1 (stringOf ps)
@@ -70,13 +72,13 @@ module _ (old cleared ran one two : List ℕ) (ps : List ℕ) (are : IsParents p
 
   new-two : (q : ℕ) → 512 ≤ q → getD new q 0 ≡ getD two q 0
   unfolding new
-  new-two q h = headed-byte two (length ps) (marksIn ps) (blocksFor ps) (omega arith) q (omega arith)
+  new-two q h = headed-byte two (length ps) (runsIn ps) (blocksFor ps) (omega arith) q (omega arith)
 
   -- a byte that holds no count
-  two-one : (q : ℕ) → (512 * zerosFrom (length ps) ≤ q → q < 512 * samplesFrom (length ps) → 4 ≤ q % 512) → getD two q 0 ≡ getD one q 0
+  two-one : (q : ℕ) → (512 * r0Block (length ps) ≤ q → q < 512 * r1Samples (length ps) → 4 ≤ q % 512) → getD two q 0 ≡ getD one q 0
   two-one q h = c0 .apart q (λ x y. h x (omega arith))
 
-  one-ran : (q : ℕ) → (512 ≤ q → q < 512 * zerosFrom (length ps) → 4 ≤ q % 512) → getD one q 0 ≡ getD ran q 0
+  one-ran : (q : ℕ) → (512 ≤ q → q < 512 * r0Block (length ps) → 4 ≤ q % 512) → getD one q 0 ≡ getD ran q 0
   one-ran q h = c1 .apart q (λ x y. h (omega arith) (omega arith))
 
   n-is : length a ≡ length ps
@@ -91,27 +93,27 @@ module _ (old cleared ran one two : List ℕ) (ps : List ℕ) (are : IsParents p
   unfolding a b
   m-is = sizes ps are .same
 
-  sa : sampleBlocks (samples a) ≡ blocksOfSamples (marksIn ps)
+  sa : sampleBlocks (samples a) ≡ blocksOfSamples (runsIn ps)
   unfolding a
   sa = samples-blocks a
 
-  sb : sampleBlocks (samples b) ≡ blocksOfSamples (marksIn ps)
+  sb : sampleBlocks (samples b) ≡ blocksOfSamples (runsIn ps)
   unfolding a b
   sb = samples-blocks b ∙ ap (λ m. blocksOfSamples m) m-is
 
-  one-second : Part one (zerosFrom (length ps)) (stringBlocks (length ps + 1)) (samplesFrom (length ps) + blocksOfSamples (marksIn ps)) (blocksOfSamples (marksIn ps)) b
+  one-second : Part one (r0Block (length ps)) (stringBlocks (length ps + 1)) (r1Samples (length ps) + blocksOfSamples (runsIn ps)) (blocksOfSamples (runsIn ps)) b
   unfolding b
   one-second =
-      part-agree ran (zerosFrom (length ps)) (stringBlocks (length ps + 1)) (samplesFrom (length ps) + blocksOfSamples (marksIn ps)) (blocksOfSamples (marksIn ps)) b (r .second) one
+      part-agree ran (r0Block (length ps)) (stringBlocks (length ps + 1)) (r1Samples (length ps) + blocksOfSamples (runsIn ps)) (blocksOfSamples (runsIn ps)) b (r .second) one
       (λ q x y z. one-ran q (λ v w. z)) (λ q x y. one-ran q (λ v w. absurd (omega arith)))
 
   new-second : Part new (startR0 a b) (stringBlocks (length b)) (startS0 a b) (sampleBlocks (samples b)) b
   new-second =
       let B0 = stringBlocks (length ps + 1) in
-      let S = blocksOfSamples (marksIn ps) in
-      part-cast new (zerosFrom (length ps)) B0 (samplesFrom (length ps) + S) S (startR0 a b) (stringBlocks (length b)) (startS0 a b) (sampleBlocks (samples b)) b
+      let S = blocksOfSamples (runsIn ps) in
+      part-cast new (r0Block (length ps)) B0 (r1Samples (length ps) + S) S (startR0 a b) (stringBlocks (length b)) (startS0 a b) (sampleBlocks (samples b)) b
       (omega (arith, n-is)) (omega (arith, n0-is)) (omega (arith, n-is, n0-is, sa)) (sym sb)
-      (part-agree one (zerosFrom (length ps)) B0 (samplesFrom (length ps) + S) S b one-second new
+      (part-agree one (r0Block (length ps)) B0 (r1Samples (length ps) + S) S b one-second new
       (λ q x y z. new-two q (omega arith) ∙ two-one q (λ v w. z))
       (λ q x y. new-two q (omega arith) ∙ two-one q (λ v w. absurd (omega arith))))
 
@@ -119,26 +121,26 @@ module _ (old cleared ran one two : List ℕ) (ps : List ℕ) (are : IsParents p
   unfolding a
   new-first =
       let B1 = stringBlocks (length ps) in
-      let S = blocksOfSamples (marksIn ps) in
-      part-cast new 1 B1 (samplesFrom (length ps)) S 1 (stringBlocks (length a)) (startS1 a b) (sampleBlocks (samples a)) a
+      let S = blocksOfSamples (runsIn ps) in
+      part-cast new 1 B1 (r1Samples (length ps)) S 1 (stringBlocks (length a)) (startS1 a b) (sampleBlocks (samples a)) a
       refl (omega (arith, n-is)) (omega (arith, n-is, n0-is)) (sym sa)
-      (part-agree ran 1 B1 (samplesFrom (length ps)) S a (r .first) new
+      (part-agree ran 1 B1 (r1Samples (length ps)) S a (r .first) new
       (λ q x y z. new-two q (omega arith) ∙ two-one q (λ v w. z) ∙ one-ran q (λ v w. z))
       (λ q x y. new-two q (omega arith) ∙ two-one q (λ v w. absurd (omega arith)) ∙ one-ran q (λ v w. absurd (omega arith))))
 
   string1 : stringIn ran 1 0 (length ps) ≡ a
   unfolding a
   string1 =
-      let S = blocksOfSamples (marksIn ps) in
-      let at = samplesFrom (length ps) in
+      let S = blocksOfSamples (runsIn ps) in
+      let at = r1Samples (length ps) in
       ap (stringIn ran 1 0) (sym n-is)
       ∙ part-string ran 1 at S a (part-cast ran 1 (stringBlocks (length ps)) at S 1 (stringBlocks (length a)) at S a refl (omega (arith, n-is)) refl refl (r .first))
 
-  string0 : stringIn one (zerosFrom (length ps)) 0 (length ps + 1) ≡ b
+  string0 : stringIn one (r0Block (length ps)) 0 (length ps + 1) ≡ b
   string0 =
-      let S = blocksOfSamples (marksIn ps) in
-      let at = samplesFrom (length ps) + S in
-      let z = zerosFrom (length ps) in
+      let S = blocksOfSamples (runsIn ps) in
+      let at = r1Samples (length ps) + S in
+      let z = r0Block (length ps) in
       ap (stringIn one z 0) (sym n0-is)
       ∙ part-string one z at S b (part-cast one z (stringBlocks (length ps + 1)) at S z (stringBlocks (length b)) at S b refl (omega (arith, n0-is)) refl refl one-second)
 
@@ -149,22 +151,22 @@ module _ (old cleared ran one two : List ℕ) (ps : List ℕ) (are : IsParents p
 
   counts-zero : Counts new (startR0 a b) b
   counts-zero j h =
-      ap (wordAt new) (let e : 512 * (startR0 a b + j) ≡ 512 * (zerosFrom (length ps) + j) = omega (arith, n-is) in e)
-      ∙ word-agree new two (512 * (zerosFrom (length ps) + j)) (λ q x y. new-two q (omega arith))
+      ap (wordAt new) (let e : 512 * (startR0 a b + j) ≡ 512 * (r0Block (length ps) + j) = omega (arith, n-is) in e)
+      ∙ word-agree new two (512 * (r0Block (length ps) + j)) (λ q x y. new-two q (omega arith))
       ∙ c0 .counts j (omega (arith, n0-is)) ∙ ap (λ s. ones (take (4000 * j) s)) string0
 
   new-head : (w : ℕ) → w < 126 → wordAt new (4 * w) ≡ getD (1 ∷ length a ∷ ones a ∷ total a b ∷ []) w 0
   unfolding new a b
   new-head w h =
-      let f = few-marks ps are in
-      headed-word two (length ps) (marksIn ps) (blocksFor ps) (omega arith) (omega arith) (omega arith) (omega arith)
+      let f = few-runs ps are in
+      headed-word two (length ps) (runsIn ps) (blocksFor ps) (omega arith) (omega arith) (omega arith) (omega arith)
       (λ q x. two-one q (λ v w. absurd (omega arith)) ∙ one-ran q (λ v w. absurd (omega arith)) ∙ r .head q x) w h
-      ∙ ap₂ (λ n t. getD (1 ∷ n ∷ marksIn ps ∷ t ∷ []) w 0) (sym n-is) (blocks-total ps are)
+      ∙ ap₂ (λ n t. getD (1 ∷ n ∷ runsIn ps ∷ t ∷ []) w 0) (sym n-is) (blocks-total ps are)
 
   made : Filled new a b
   made = record { head = new-head; parts = record { first = new-first; second = new-second }; counts1 = counts-one; counts0 = counts-zero }
 
-  pub prepared : (last : List ℕ) → last ≡ headed two (length ps) (marksIn ps) (blocksFor ps) → Prepared old last ps
+  pub prepared : (last : List ℕ) → last ≡ headed two (length ps) (runsIn ps) (blocksFor ps) → Prepared old last ps
   unfolding new a b
   prepared last e = subst (λ s. Prepared old s ps) (sym e) (record {
     filled = made;
@@ -172,27 +174,30 @@ module _ (old cleared ran one two : List ℕ) (ps : List ℕ) (are : IsParents p
         ∙ ap (λ s. getD s q 0) c ∙ cleared-rest old (512 * blocksFor ps) q h;
   })
 
--- ---- as the code has it: m runs and t blocks
+-- ---- as the code has it: with a layout
 
-module _ (old cleared ps : List ℕ) (m t : ℕ) (some : 1 ≤ length ps) (most : length ps ≤ 65535) (good : badEntry ps ≡ 0) (em : m ≡ marksIn ps) (et : t ≡ blocksFor ps)
-    (c : cleared ≡ replicate (512 * t) 0 ++ drop (512 * t) old) where
+module _ (old cleared ps : List ℕ) (layout : Layout) (some : 1 ≤ length ps) (most : length ps ≤ 65535) (good : badEntry ps ≡ 0)
+    (laid : layout ≡ layoutOf (length ps) (runsIn ps)) (c : cleared ≡ replicate (512 * layout .blocks) 0 ++ drop (512 * layout .blocks) old) where
   cleared-is : cleared ≡ replicate (512 * blocksFor ps) 0 ++ drop (512 * blocksFor ps) old
-  cleared-is = c ∙ ap (λ k. replicate (512 * k) 0 ++ drop (512 * k) old) et
+  cleared-is = c ∙ ap (λ (l : Layout). replicate (512 * l .blocks) 0 ++ drop (512 * l .blocks) old) laid
 
-  pub ready : (z f s : ℕ) → z ≡ zerosFrom (length ps) → f ≡ samplesFrom (length ps) → s ≡ blocksOfSamples m → 512 * t ≤ length old → Ready cleared ps z f (f + s)
-  ready z f s ez ef es room = record {
+  r0-is : layout .«r0_block» ≡ r0Block (length ps)
+  r0-is = ap (λ (l : Layout). l .«r0_block») laid
+
+  pub ready : 512 * blocksFor ps ≤ length old → RoomForStrings cleared ps (layout .«r0_block») (layout .«r1_samples») (layout .«r0_samples»)
+  ready room = record {
     some = some;
     most = most;
     good = good;
-    isZeros = ez;
-    isFirst = ef;
-    isSecond = ap₂ _+_ ef (es ∙ ap (λ k. blocksOfSamples k) em);
-    room = omega (arith, ap length c, cleared-length old (512 * t) room);
+    isR0 = r0-is;
+    isFirst = ap (λ (l : Layout). l .«r1_samples») laid;
+    isSecond = ap (λ (l : Layout). l .«r0_samples») laid;
+    room = omega (arith, ap length cleared-is, cleared-length old (512 * blocksFor ps) room);
     blank = λ q h. ap (λ s. getD s q 0) cleared-is ∙ cleared-zero old (512 * blocksFor ps) q h;
   }
 
-  pub all-prepared : (ran one two last : List ℕ) (z : ℕ) → z ≡ zerosFrom (length ps) → 512 * t ≤ length two → Ran cleared ran ps
-      → Counted ran one 1 (length ps) → Counted one two z (length ps + 1) → last ≡ headed two (length ps) m t → Prepared old last ps
-  all-prepared ran one two last z ez room r c1 c0 e =
-      prepared old cleared ran one two ps (good-parents ps some good) most (omega arith) cleared-is r c1
-      (subst (λ k. Counted one two k (length ps + 1)) ez c0) last (e ∙ ap₂ (λ k n. headed two (length ps) k n) em et)
+  pub all-prepared : (ran one two last : List ℕ) → 512 * blocksFor ps ≤ length two → StringsWritten cleared ran ps → CountsWritten ran one 1 (length ps)
+      → CountsWritten one two (layout .«r0_block») (length ps + 1) → last ≡ headed two (layout .nodes) (layout .runs) (layout .blocks) → Prepared old last ps
+  all-prepared ran one two last room r c1 c0 e =
+      prepared old cleared ran one two ps (good-parents ps some good) most room cleared-is r c1
+      (subst (λ k. CountsWritten one two k (length ps + 1)) r0-is c0) last (e ∙ ap (λ (l : Layout). headed two (l .nodes) (l .runs) (l .blocks)) laid)

@@ -13,21 +13,21 @@ use Rattle.theory.specs.Rank.{position}
 use Rattle.theory.specs.Stages.{blocksOfSamples}
 use Rattle.theory.proofs.Payloads.{length-samples, sample-at}
 use Rattle.image_words.specs.Words.{withWord}
-use Rattle.seal_r1_bits.specs.Listed.{nextOf, marksIn}
+use Rattle.seal_r1_bits.specs.Listed.{nextOf, runsIn}
 use Rattle.seal_r1_bits.proofs.Lists.{R0-place}
 use Rattle.seal_r1_bits.proofs.Entries.{sizes}
-use Rattle.seal_r1.specs.Passes.{Blank, Outside, Known, Followed}
+use Rattle.seal_r1.specs.Passes.{Blank, Outside, R1SamplesKnown, R0SamplesWritten}
 use Rattle.seal_r1.proofs.Placing.{earlier, word-agree, word-zero, put-length, put-word, put-byte}
 use Rattle.seal_r1.proofs.Ending.{position-le, position-low}
 
 pub record Following (ps old out : List ℕ) (second s : ℕ) : Type 0 where
-  pub left : 64 * s ≤ marksIn ps + 63
+  pub left : 64 * s ≤ runsIn ps + 63
   pub words : (w : ℕ) → w < s → wordAt out (samplePlace second w) ≡ position (R0 (stringOf ps)) (64 * w + 1)
-  pub rest : (w : ℕ) → s ≤ w → w < 126 * blocksOfSamples (marksIn ps) → wordAt out (samplePlace second w) ≡ 0
-  pub apart : (q : ℕ) → Outside second (blocksOfSamples (marksIn ps)) q → getD out q 0 ≡ getD old q 0
+  pub rest : (w : ℕ) → s ≤ w → w < 126 * blocksOfSamples (runsIn ps) → wordAt out (samplePlace second w) ≡ 0
+  pub apart : (q : ℕ) → Outside second (blocksOfSamples (runsIn ps)) q → getD out q 0 ≡ getD old q 0
   pub kept : length out ≡ length old
 
-pub following-first : (ps old : List ℕ) (second : ℕ) → Blank old second (blocksOfSamples (marksIn ps)) → Following ps old old second 0
+pub following-first : (ps old : List ℕ) (second : ℕ) → Blank old second (blocksOfSamples (runsIn ps)) → Following ps old old second 0
 following-first ps old second h = record {
   left = omega arith;
   words = λ w l. absurd (omega arith);
@@ -37,7 +37,7 @@ following-first ps old second h = record {
 }
 
 module _ (ps old out : List ℕ) (first second s : ℕ) (are : IsParents ps) (n : Following ps old out second s) where
-  pub following-last : marksIn ps ≤ 64 * s → Followed old out ps second
+  pub following-last : runsIn ps ≤ 64 * s → R0SamplesWritten old out ps second
   following-last l =
       let size = length-samples (R0 (stringOf ps)) in
       let same = sizes ps are .same in
@@ -49,8 +49,8 @@ module _ (ps old out : List ℕ) (first second s : ℕ) (are : IsParents ps) (n 
         apart = n .apart;
       }
 
-  module _ (known : Known old ps first) (before : first + blocksOfSamples (marksIn ps) ≤ second) (room : 512 * (second + blocksOfSamples (marksIn ps)) ≤ length old)
-      (most : length ps ≤ 65535) (l : 64 * s < marksIn ps) (x : ℕ) (e : x ≡ wordAt out (samplePlace first s)) where
+  module _ (known : R1SamplesKnown old ps first) (before : first + blocksOfSamples (runsIn ps) ≤ second) (room : 512 * (second + blocksOfSamples (runsIn ps)) ≤ length old)
+      (most : length ps ≤ 65535) (l : 64 * s < runsIn ps) (x : ℕ) (e : x ≡ wordAt out (samplePlace first s)) where
     is : x ≡ position (R1 (stringOf ps)) (64 * s + 1)
     is = e ∙ word-agree out old (samplePlace first s) (λ q a c. n .apart q (λ g h. omega arith)) ∙ known s l
 

@@ -13,11 +13,11 @@ use Rattle.meaning.specs.Strings.{Bit, O, I, R0, stringOf}
 use Rattle.meaning.specs.Bytes.{bitAt}
 use Rattle.meaning.specs.Image.{stringBlocks}
 use Rattle.theory.specs.Layout.{bitPlace}
-use Rattle.bit.specs.Lit.{lit}
+use Rattle.bits_byte.specs.Lit.{lit}
 use Rattle.bits_append.proofs.Appending.{lit-length, lit-same, lit-other}
 use Rattle.seal_r1_bits.proofs.Lists.{never, Entry, R0-bit}
 use Rattle.seal_r1_bits.proofs.Entries.{sizes}
-use Rattle.seal_r1.specs.Passes.{Blank, Outside, bytePlace, Gapped}
+use Rattle.seal_r1.specs.Passes.{Blank, Outside, bytePlace, R0Written}
 use Rattle.seal_r1.proofs.Placing.{earlier, bit-zero, lit-byte}
 
 same-bit : (a b : Bit) → (a ≡ I → b ≡ I) → (b ≡ I → a ≡ I) → a ≡ b
@@ -124,8 +124,8 @@ module _ (ps old out : List ℕ) (zeros i : ℕ) (are : IsParents ps) (n : Lit p
           ])
     ]
 
-    lit-last : (new : List ℕ) → new ≡ lit out (bitPlace zeros (length ps)) → Gapped old new ps zeros
-    lit-last new e = subst (λ s. Gapped old s ps zeros) (sym e) (record {
+    lit-last : (new : List ℕ) → new ≡ lit out (bitPlace zeros (length ps)) → R0Written old new ps zeros
+    lit-last new e = subst (λ s. R0Written old s ps zeros) (sym e) (record {
       bits = last-bit;
       apart = λ q h. lit-byte out (bitPlace zeros (length ps)) q (λ f. h (omega arith) (omega arith)) ∙ n .apart q h;
     })
@@ -206,7 +206,7 @@ module _ (ps old out : List ℕ) (zeros c byte i : ℕ) (are : IsParents ps) (n 
           kept = ap length f ∙ n .kept;
         }
 
-  pub gapping-last : length ps ≤ i → (put new : List ℕ) → put ≡ set out (bytePlace zeros c) byte → new ≡ lit put (bitPlace zeros (length ps)) → Gapped old new ps zeros
+  pub gapping-last : length ps ≤ i → (put new : List ℕ) → put ≡ set out (bytePlace zeros c) byte → new ≡ lit put (bitPlace zeros (length ps)) → R0Written old new ps zeros
   gapping-last l put new f g =
       lit-last ps old (set out (bytePlace zeros c) byte) zeros i are (n .lits) room (let w = n .left in omega arith) new
       (g ∙ ap (λ s. lit s (bitPlace zeros (length ps))) f)

@@ -5,10 +5,11 @@ ghost use lib.ListN.{length};
 ghost use Rattle.meaning.specs.Image.{stringBlocks};
 ghost use Rattle.meaning.specs.Parents.{badEntry};
 ghost use Rattle.theory.specs.Stages.{blocksOfSamples};
-ghost use Rattle.seal_r1_bits.specs.Listed.{marksIn};
-ghost use Rattle.seal_r1.specs.Passes.{bytePlace, Blank, Known, Gapped, Followed, Ready, Ran};
-use parents_check::wide;
-use seal_r1::mark_ends;
+ghost use Rattle.seal_r1_bits.specs.Listed.{runsIn};
+ghost use Rattle.seal_r1.specs.Passes.{bytePlace, Blank, R1SamplesKnown, R0Written, R0SamplesWritten, RoomForStrings, StringsWritten};
+use bits_wide::wide;
+use image_layout::Layout;
+use seal_r1::write_r1;
 
 // Where byte number c of a string stands whose blocks begin at `from`.
 fn byte_place(from: usize, c: usize) -> usize
@@ -20,14 +21,14 @@ fn byte_place(from: usize, c: usize) -> usize
 }
 
 // R0: before each entry but the first a run of zeros ends, and one after the last. The byte of the entries at hand is in `byte`, and not yet in the image.
-fn mark_gaps(image: &mut [u8], ps: &[u32], zeros: usize)
+fn write_r0(image: &mut [u8], ps: &[u32], zeros: usize)
     requires { ⌜ 1 ≤ length (now ps) ⌝ }
     requires { ⌜ length (now ps) ≤ 65535 ⌝ }
     requires { ⌜ badEntry (now ps) ≡ 0 ⌝ }
     requires { ⌜ zeros ≤ 53 ⌝ }
     requires { ⌜ 512 * (zeros + stringBlocks (length (now ps) + 1)) ≤ length (now image) ⌝ }
     requires { ⌜ Blank (now image) zeros (stringBlocks (length (now ps) + 1)) ⌝ }
-    ensures { λ _. ⌜ Gapped (now (image .entry)) (now (image .exit)) (now (ps .entry)) zeros ⌝ }
+    ensures { λ _. ⌜ R0Written (now (image .entry)) (now (image .exit)) (now (ps .entry)) zeros ⌝ }
 {
     let mut c: usize = 0;
     let mut byte: u8 = 0;
@@ -47,21 +48,21 @@ fn mark_gaps(image: &mut [u8], ps: &[u32], zeros: usize)
     let at = byte_place(zeros, c);
     image[at] = byte;
     let n = ps.len();
-    bit::set_bit(image, 8 * (512 * (zeros + n / 4000) + 4) + n % 4000);
+    bits_byte::set_bit(image, 8 * (512 * (zeros + n / 4000) + 4) + n % 4000);
 }
 
 // The samples of R0 of a list with m runs: the run of zeros with the same number as a run of ones ends before the entry after it.
-fn follow(image: &mut [u8], ps: &[u32], first: usize, second: usize, m: usize)
+fn write_r0_samples(image: &mut [u8], ps: &[u32], first: usize, second: usize, m: usize)
     requires { ⌜ 1 ≤ length (now ps) ⌝ }
     requires { ⌜ length (now ps) ≤ 65535 ⌝ }
     requires { ⌜ badEntry (now ps) ≡ 0 ⌝ }
-    requires { ⌜ m ≡ marksIn (now ps) ⌝ }
+    requires { ⌜ m ≡ runsIn (now ps) ⌝ }
     requires { ⌜ second ≤ 53 ⌝ }
     requires { ⌜ first + blocksOfSamples m ≤ second ⌝ }
     requires { ⌜ 512 * (second + blocksOfSamples m) ≤ length (now image) ⌝ }
-    requires { ⌜ Known (now image) (now ps) first ⌝ }
+    requires { ⌜ R1SamplesKnown (now image) (now ps) first ⌝ }
     requires { ⌜ Blank (now image) second (blocksOfSamples m) ⌝ }
-    ensures { λ _. ⌜ Followed (now (image .entry)) (now (image .exit)) (now (ps .entry)) second ⌝ }
+    ensures { λ _. ⌜ R0SamplesWritten (now (image .entry)) (now (image .exit)) (now (ps .entry)) second ⌝ }
 {
     let mut s: usize = 0;
     while 64 * s < m {
@@ -72,12 +73,14 @@ fn follow(image: &mut [u8], ps: &[u32], first: usize, second: usize, m: usize)
     }
 }
 
-// The bits and samples of both strings.
-pub fn mark_runs(image: &mut [u8], ps: &[u32], zeros: usize, first: usize, second: usize)
-    requires { ⌜ Ready (now image) (now ps) zeros first second ⌝ }
-    ensures { λ _. ⌜ Ran (now (image .entry)) (now (image .exit)) (now (ps .entry)) ⌝ }
+// The bits and samples of both strings, at the blocks of the layout.
+pub fn write_strings(image: &mut [u8], ps: &[u32], layout: Layout)
+    requires { ⌜ RoomForStrings (now image) (now ps) (layout .«r0_block») (layout .«r1_samples») (layout .«r0_samples») ⌝ }
+    ensures { λ _. ⌜ StringsWritten (now (image .entry)) (now (image .exit)) (now (ps .entry)) ⌝ }
 {
-    let m = mark_ends(image, ps, first);
-    mark_gaps(image, ps, zeros);
-    follow(image, ps, first, second, m);
+    let r1_samples = layout.r1_samples as usize;
+    let r0_samples = layout.r0_samples as usize;
+    let m = write_r1(image, ps, r1_samples);
+    write_r0(image, ps, layout.r0_block as usize);
+    write_r0_samples(image, ps, r1_samples, r0_samples, m);
 }

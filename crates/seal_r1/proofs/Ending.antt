@@ -25,10 +25,10 @@ use Rattle.bits_byte.proofs.Byte.{digit, byte-digit, number-digit}
 use Rattle.bits_append.proofs.Appending.{set-bit-same, set-bit-other}
 use Rattle.bits_byte.proofs.Counting.{number-ones}
 use Rattle.image_words.specs.Words.{withWord}
-use Rattle.seal_r1_bits.specs.Listed.{marksIn}
+use Rattle.seal_r1_bits.specs.Listed.{runsIn}
 use Rattle.seal_r1_bits.proofs.Lists.{never}
 use Rattle.seal_r1_bits.proofs.Entries.{length-ends}
-use Rattle.seal_r1.specs.Passes.{Blank, Outside, bytePlace, byteMarked, Ended}
+use Rattle.seal_r1.specs.Passes.{Blank, Outside, bytePlace, byteMarked, R1Written}
 use Rattle.seal_r1.proofs.Placing.{bit-agree, word-agree, bit-zero, word-zero, put-length, put-word, put-byte}
 
 -- ---- positions of ones
@@ -161,11 +161,11 @@ pub record Ending (ps old out : List ℕ) (first b k : ℕ) : Type 0 where
   pub sum : k ≡ ones (take (8 * b) (R1 (stringOf ps)))
   pub bits : (i : ℕ) → i < 4000 * stringBlocks (length ps) → bitAt out (bitPlace 1 i) ≡ getD (take (8 * b) (R1 (stringOf ps))) i O
   pub words : (w : ℕ) → 64 * w < k → wordAt out (samplePlace first w) ≡ position (R1 (stringOf ps)) (64 * w + 1)
-  pub rest : (w : ℕ) → k ≤ 64 * w → w < 126 * blocksOfSamples (marksIn ps) → wordAt out (samplePlace first w) ≡ 0
-  pub apart : (q : ℕ) → Outside 1 (stringBlocks (length ps)) q → Outside first (blocksOfSamples (marksIn ps)) q → getD out q 0 ≡ getD old q 0
+  pub rest : (w : ℕ) → k ≤ 64 * w → w < 126 * blocksOfSamples (runsIn ps) → wordAt out (samplePlace first w) ≡ 0
+  pub apart : (q : ℕ) → Outside 1 (stringBlocks (length ps)) q → Outside first (blocksOfSamples (runsIn ps)) q → getD out q 0 ≡ getD old q 0
   pub kept : length out ≡ length old
 
-pub ending-first : (ps old : List ℕ) (first : ℕ) → Blank old 1 (stringBlocks (length ps)) → Blank old first (blocksOfSamples (marksIn ps)) → Ending ps old old first 0 0
+pub ending-first : (ps old : List ℕ) (first : ℕ) → Blank old 1 (stringBlocks (length ps)) → Blank old first (blocksOfSamples (runsIn ps)) → Ending ps old old first 0 0
 ending-first ps old first h g = record {
   left = omega arith;
   sum = refl;
@@ -180,10 +180,10 @@ module _ (ps old out : List ℕ) (first b k : ℕ) (are : IsParents ps) (n : End
   pub ending-few : 8 * b ≤ length ps → k ≤ 8 * b
   ending-few l = omega (arith, n .sum, ones-le (take (8 * b) (R1 (stringOf ps))), length-take (8 * b) (R1 (stringOf ps)))
 
-  pub ending-last : length ps ≤ 8 * b → (k ≡ marksIn ps) × Ended old out ps first
+  pub ending-last : length ps ≤ 8 * b → (k ≡ runsIn ps) × R1Written old out ps first
   ending-last l =
       let all : take (8 * b) (R1 (stringOf ps)) ≡ R1 (stringOf ps) = take-all (8 * b) (R1 (stringOf ps)) (omega (arith, length-ends ps are)) in
-      let m : k ≡ marksIn ps = n .sum ∙ ap ones all in
+      let m : k ≡ runsIn ps = n .sum ∙ ap ones all in
       let size = length-samples (R1 (stringOf ps)) in (
         m,
         record {
@@ -203,10 +203,10 @@ module _ (ps old out : List ℕ) (first b k : ℕ) (are : IsParents ps) (n : End
     sum-next = next-ones (R1 (stringOf ps)) b x e ∙ ap (λ m. m + ones (byteBits x)) (sym (n .sum))
 
     -- no more ones than there are
-    pub ending-within : k + ones (byteBits x) ≤ marksIn ps
+    pub ending-within : k + ones (byteBits x) ≤ runsIn ps
     ending-within = omega (arith, sum-next, ones-front (8 * (b + 1)) (R1 (stringOf ps)))
 
-    module _ (most : length ps ≤ 65535) (low : 1 + stringBlocks (length ps) ≤ first) (high : 512 * (first + blocksOfSamples (marksIn ps)) ≤ length old) where
+    module _ (most : length ps ≤ 65535) (low : 1 + stringBlocks (length ps) ≤ first) (high : 512 * (first + blocksOfSamples (runsIn ps)) ≤ length old) where
       room : 512 * (first + blocksOfSamples (k + ones (byteBits x))) ≤ length out
       room = omega (arith, ending-within, n .kept)
 

@@ -14,7 +14,7 @@ use Rattle.meaning.specs.Bytes.{bit, bitAt}
 use Rattle.meaning.specs.Blocks.{le32}
 use Rattle.theory.specs.Layout.{wordAt}
 use Rattle.theory.proofs.Digits.{wordAt-append, le32-first}
-use Rattle.bit.specs.Lit.{lit}
+use Rattle.bits_byte.specs.Lit.{lit}
 use Rattle.image_words.specs.Words.{withWord}
 
 -- ---- of the numbers up to i, those other than i are lower

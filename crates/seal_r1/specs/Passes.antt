@@ -11,10 +11,10 @@ use Rattle.meaning.specs.Bytes.{bitAt}
 use Rattle.meaning.specs.Image.{stringBlocks, samples}
 use Rattle.theory.specs.Layout.{wordAt, bitPlace, samplePlace}
 use Rattle.theory.specs.Rank.{position}
-use Rattle.theory.specs.Stages.{blocksOfSamples, zerosFrom, samplesFrom, blocksNeeded}
+use Rattle.theory.specs.Stages.{blocksOfSamples, r0Block, r1Samples, blocksNeeded}
 use Rattle.bits_byte.specs.Byte.{byteBits}
 use Rattle.image_words.specs.Words.{withWord}
-use Rattle.seal_r1_bits.specs.Listed.{marksIn}
+use Rattle.seal_r1_bits.specs.Listed.{runsIn}
 
 -- ---- a string in an image
 
@@ -26,7 +26,7 @@ pub record Part (bytes : List ℕ) (from B at S : ℕ) (r : List Bit) : Type 0 w
 -- ---- the pass over the list
 
 abbrev pub blocksFor : List ℕ → ℕ
-blocksFor ps = blocksNeeded (length ps) (marksIn ps)
+blocksFor ps = blocksNeeded (length ps) (runsIn ps)
 
 -- zeros in B blocks from block `from` on
 abbrev pub Blank : List ℕ → ℕ → ℕ → Type 0
@@ -50,40 +50,40 @@ byteMarked bytes first b x k =
     cond (ltb (64 * s) (k + ones (byteBits x))) (withWord put (samplePlace first s) (8 * b + position (byteBits x) (64 * s + 1 - k))) put
 
 -- R1 and its samples are there
-pub record Ended (old bytes ps : List ℕ) (first : ℕ) : Type 0 where
-  pub part : Part bytes 1 (stringBlocks (length ps)) first (blocksOfSamples (marksIn ps)) (R1 (stringOf ps))
-  pub apart : (q : ℕ) → Outside 1 (stringBlocks (length ps)) q → Outside first (blocksOfSamples (marksIn ps)) q → getD bytes q 0 ≡ getD old q 0
+pub record R1Written (old bytes ps : List ℕ) (first : ℕ) : Type 0 where
+  pub part : Part bytes 1 (stringBlocks (length ps)) first (blocksOfSamples (runsIn ps)) (R1 (stringOf ps))
+  pub apart : (q : ℕ) → Outside 1 (stringBlocks (length ps)) q → Outside first (blocksOfSamples (runsIn ps)) q → getD bytes q 0 ≡ getD old q 0
 
 -- ---- R0, and then its samples
 
-pub record Gapped (old bytes ps : List ℕ) (zeros : ℕ) : Type 0 where
+pub record R0Written (old bytes ps : List ℕ) (zeros : ℕ) : Type 0 where
   pub bits : (i : ℕ) → i < 4000 * stringBlocks (length ps + 1) → bitAt bytes (bitPlace zeros i) ≡ getD (R0 (stringOf ps)) i O
   pub apart : (q : ℕ) → Outside zeros (stringBlocks (length ps + 1)) q → getD bytes q 0 ≡ getD old q 0
 
 -- the samples of R1, one by one
-abbrev pub Known : List ℕ → List ℕ → ℕ → Type 0
-Known bytes ps first = (w : ℕ) → 64 * w < marksIn ps → wordAt bytes (samplePlace first w) ≡ position (R1 (stringOf ps)) (64 * w + 1)
+abbrev pub R1SamplesKnown : List ℕ → List ℕ → ℕ → Type 0
+R1SamplesKnown bytes ps first = (w : ℕ) → 64 * w < runsIn ps → wordAt bytes (samplePlace first w) ≡ position (R1 (stringOf ps)) (64 * w + 1)
 
-pub record Followed (old bytes ps : List ℕ) (second : ℕ) : Type 0 where
-  pub words : (w : ℕ) → w < 126 * blocksOfSamples (marksIn ps) → wordAt bytes (samplePlace second w) ≡ getD (samples (R0 (stringOf ps))) w 0
-  pub apart : (q : ℕ) → Outside second (blocksOfSamples (marksIn ps)) q → getD bytes q 0 ≡ getD old q 0
+pub record R0SamplesWritten (old bytes ps : List ℕ) (second : ℕ) : Type 0 where
+  pub words : (w : ℕ) → w < 126 * blocksOfSamples (runsIn ps) → wordAt bytes (samplePlace second w) ≡ getD (samples (R0 (stringOf ps))) w 0
+  pub apart : (q : ℕ) → Outside second (blocksOfSamples (runsIn ps)) q → getD bytes q 0 ≡ getD old q 0
 
 -- ---- all of it
 
 -- a parent list, and the first so many bytes zero
-pub record Ready (bytes ps : List ℕ) (zeros first second : ℕ) : Type 0 where
+pub record RoomForStrings (bytes ps : List ℕ) (zeros first second : ℕ) : Type 0 where
   pub some : 1 ≤ length ps
   pub most : length ps ≤ 65535
   pub good : badEntry ps ≡ 0
-  pub isZeros : zeros ≡ zerosFrom (length ps)
-  pub isFirst : first ≡ samplesFrom (length ps)
-  pub isSecond : second ≡ samplesFrom (length ps) + blocksOfSamples (marksIn ps)
+  pub isR0 : zeros ≡ r0Block (length ps)
+  pub isFirst : first ≡ r1Samples (length ps)
+  pub isSecond : second ≡ r1Samples (length ps) + blocksOfSamples (runsIn ps)
   pub room : 512 * blocksFor ps ≤ length bytes
   pub blank : (q : ℕ) → q < 512 * blocksFor ps → getD bytes q 0 ≡ 0
 
 -- the two strings and their samples are there
-pub record Ran (old bytes ps : List ℕ) : Type 0 where
-  pub first : Part bytes 1 (stringBlocks (length ps)) (samplesFrom (length ps)) (blocksOfSamples (marksIn ps)) (R1 (stringOf ps))
-  pub second : Part bytes (zerosFrom (length ps)) (stringBlocks (length ps + 1)) (samplesFrom (length ps) + blocksOfSamples (marksIn ps)) (blocksOfSamples (marksIn ps)) (R0 (stringOf ps))
+pub record StringsWritten (old bytes ps : List ℕ) : Type 0 where
+  pub first : Part bytes 1 (stringBlocks (length ps)) (r1Samples (length ps)) (blocksOfSamples (runsIn ps)) (R1 (stringOf ps))
+  pub second : Part bytes (r0Block (length ps)) (stringBlocks (length ps + 1)) (r1Samples (length ps) + blocksOfSamples (runsIn ps)) (blocksOfSamples (runsIn ps)) (R0 (stringOf ps))
   pub head : (q : ℕ) → q < 512 → getD bytes q 0 ≡ 0
   pub tail : (q : ℕ) → 512 * blocksFor ps ≤ q → getD bytes q 0 ≡ getD old q 0

@@ -7,12 +7,12 @@ ghost use Rattle.meaning.specs.Parents.{badEntry};
 ghost use Rattle.meaning.specs.Strings.{ones};
 ghost use Rattle.theory.specs.Stages.{blocksOfSamples};
 ghost use Rattle.bits_byte.specs.Byte.{byteBits};
-ghost use Rattle.seal_r1_bits.specs.Listed.{marksIn};
-ghost use Rattle.seal_r1.specs.Passes.{byteMarked, Blank, Ended};
-use parents_check::wide;
+ghost use Rattle.seal_r1_bits.specs.Listed.{runsIn};
+ghost use Rattle.seal_r1.specs.Passes.{byteMarked, Blank, R1Written};
+use bits_wide::wide;
 
 // Byte number b, from 0, of R1, which k ones come before. Of each 64 ones the first is a sample, in the blocks from `first` on; a byte has too few for two. Answers the ones up to its end.
-fn mark_byte(image: &mut [u8], first: usize, b: usize, x: u8, k: usize) -> usize
+fn write_r1_byte(image: &mut [u8], first: usize, b: usize, x: u8, k: usize) -> usize
     requires { ⌜ first ≤ 53 ⌝ }
     requires { ⌜ b ≤ 8191 ⌝ }
     requires { ⌜ k ≤ 65535 ⌝ }
@@ -26,7 +26,7 @@ fn mark_byte(image: &mut [u8], first: usize, b: usize, x: u8, k: usize) -> usize
     if k + ones <= 64 * s {
         return k + ones;
     }
-    let place = bits_select_byte::place_in_byte(x, (64 * s + 1 - k) as u32);
+    let place = bits_select_byte::select_in_byte(x, (64 * s + 1 - k) as u32);
     image_words::put_word(
         image,
         512 * (first + s / 126) + 4 * (s % 126),
@@ -36,22 +36,22 @@ fn mark_byte(image: &mut [u8], first: usize, b: usize, x: u8, k: usize) -> usize
 }
 
 // R1 and its samples, a byte at a time: where an entry differs from the next, a run of ones ends. Answers how many.
-pub fn mark_ends(image: &mut [u8], ps: &[u32], first: usize) -> usize
+pub fn write_r1(image: &mut [u8], ps: &[u32], first: usize) -> usize
     requires { ⌜ 1 ≤ length (now ps) ⌝ }
     requires { ⌜ length (now ps) ≤ 65535 ⌝ }
     requires { ⌜ badEntry (now ps) ≡ 0 ⌝ }
     requires { ⌜ first ≤ 53 ⌝ }
     requires { ⌜ 1 + stringBlocks (length (now ps)) ≤ first ⌝ }
-    requires { ⌜ 512 * (first + blocksOfSamples (marksIn (now ps))) ≤ length (now image) ⌝ }
+    requires { ⌜ 512 * (first + blocksOfSamples (runsIn (now ps))) ≤ length (now image) ⌝ }
     requires { ⌜ Blank (now image) 1 (stringBlocks (length (now ps))) ⌝ }
-    requires { ⌜ Blank (now image) first (blocksOfSamples (marksIn (now ps))) ⌝ }
-    ensures { λ r. ⌜ (r ≡ marksIn (now (ps .entry))) × Ended (now (image .entry)) (now (image .exit)) (now (ps .entry)) first ⌝ }
+    requires { ⌜ Blank (now image) first (blocksOfSamples (runsIn (now ps))) ⌝ }
+    ensures { λ r. ⌜ (r ≡ runsIn (now (ps .entry))) × R1Written (now (image .entry)) (now (image .exit)) (now (ps .entry)) first ⌝ }
 {
     let mut k: usize = 0;
     let mut b: usize = 0;
     while 8 * b < ps.len() {
-        let x = seal_r1_bits::ends_from(ps, 8 * b);
-        k = mark_byte(image, first, b, x, k);
+        let x = seal_r1_bits::r1_byte(ps, 8 * b);
+        k = write_r1_byte(image, first, b, x, k);
         b += 1;
     }
     k

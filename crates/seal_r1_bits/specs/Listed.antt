@@ -34,5 +34,5 @@ gapsOf [] end = []
 gapsOf (p ∷ ps) end = gapOf (nextOf ps end - p) ++ gapsOf ps end
 
 -- how many runs of ones there are
-abbrev pub marksIn : List ℕ → ℕ
-marksIn ps = ones (R1 (stringOf ps))
+abbrev pub runsIn : List ℕ → ℕ
+runsIn ps = ones (R1 (stringOf ps))

@@ -5,14 +5,9 @@ ghost use lib.ListN.{length, getD, drop};
 ghost use Rattle.meaning.specs.Bytes.{number, value};
 ghost use Rattle.meaning.specs.Parents.{badEntry};
 ghost use Rattle.meaning.specs.Strings.{O, R1, stringOf};
-ghost use Rattle.seal_r1_bits.specs.Listed.{nextOf, unlike, marksIn};
-use parents_check::wide;
-
-fn count(x: u8) -> usize
-    ensures { λ r. ⌜ r ≡ x ⌝ }
-{
-    x as usize
-}
+ghost use Rattle.seal_r1_bits.specs.Listed.{nextOf, unlike, runsIn};
+use bits_wide::wide;
+use bits_wide::wide_byte;
 
 // 1 if two entries differ, else 0: a number to be added, so that nothing branches on it.
 fn differ(a: u32, b: u32) -> u8
@@ -37,23 +32,23 @@ pub fn next_entry(ps: &[u32], i: usize) -> usize
 }
 
 // How many runs of ones the string of a parent list has: as many as there are entries that differ from the next, the last among them.
-pub fn count_marks(ps: &[u32]) -> usize
+pub fn count_runs(ps: &[u32]) -> usize
     requires { ⌜ 1 ≤ length (now ps) ⌝ }
     requires { ⌜ length (now ps) ≤ 65535 ⌝ }
     requires { ⌜ badEntry (now ps) ≡ 0 ⌝ }
-    ensures { λ r. ⌜ r ≡ marksIn (now (ps .entry)) ⌝ }
+    ensures { λ r. ⌜ r ≡ runsIn (now (ps .entry)) ⌝ }
 {
     let mut k: usize = 1;
     let mut i: usize = 1;
     while i < ps.len() {
-        k += count(differ(ps[i - 1], ps[i]));
+        k += wide_byte(differ(ps[i - 1], ps[i]));
         i += 1;
     }
     k
 }
 
 // Bit i of R1, and 0 after the last one.
-fn end_at(ps: &[u32], i: usize) -> u8
+fn r1_bit(ps: &[u32], i: usize) -> u8
     requires { ⌜ 1 ≤ length (now ps) ⌝ }
     requires { ⌜ length (now ps) ≤ 65535 ⌝ }
     requires { ⌜ badEntry (now ps) ≡ 0 ⌝ }
@@ -70,7 +65,7 @@ fn end_at(ps: &[u32], i: usize) -> u8
 }
 
 // Eight bits of R1 as a byte, from bit i on. All of them have an entry after theirs, so that nothing branches on where the list ends.
-fn inner_ends(ps: &[u32], i: usize) -> u8
+fn inner_r1_byte(ps: &[u32], i: usize) -> u8
     requires { ⌜ i + 8 < length (now ps) ⌝ }
     requires { ⌜ length (now ps) ≤ 65535 ⌝ }
     requires { ⌜ badEntry (now ps) ≡ 0 ⌝ }
@@ -86,7 +81,7 @@ fn inner_ends(ps: &[u32], i: usize) -> u8
 }
 
 // The same at the end of the list: zeros after the last bit.
-fn last_ends(ps: &[u32], i: usize) -> u8
+fn last_r1_byte(ps: &[u32], i: usize) -> u8
     requires { ⌜ i < length (now ps) ⌝ }
     requires { ⌜ length (now ps) ≤ 65535 ⌝ }
     requires { ⌜ badEntry (now ps) ≡ 0 ⌝ }
@@ -95,21 +90,21 @@ fn last_ends(ps: &[u32], i: usize) -> u8
     let mut x: u8 = 0;
     let mut j: usize = 0;
     while j < 8 {
-        x = 2 * x + end_at(ps, i + j);
+        x = 2 * x + r1_bit(ps, i + j);
         j += 1;
     }
     x
 }
 
 // Eight bits of R1 as a byte, from bit i on.
-pub fn ends_from(ps: &[u32], i: usize) -> u8
+pub fn r1_byte(ps: &[u32], i: usize) -> u8
     requires { ⌜ i < length (now ps) ⌝ }
     requires { ⌜ length (now ps) ≤ 65535 ⌝ }
     requires { ⌜ badEntry (now ps) ≡ 0 ⌝ }
     ensures { λ r. ⌜ r ≡ number 8 (drop i (R1 (stringOf (now (ps .entry))))) ⌝ }
 {
     if i + 8 < ps.len() {
-        return inner_ends(ps, i);
+        return inner_r1_byte(ps, i);
     }
-    last_ends(ps, i)
+    last_r1_byte(ps, i)
 }

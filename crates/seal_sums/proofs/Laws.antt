@@ -7,7 +7,7 @@ use native.Mathlib.Nat.{eq-or-lt-of-le}
 use native.Mathlib.Omega.{arith}
 use lib.ListN.{length, getD, take, drop, replicate, length-append, length-drop, List·getD-append}
 use lib.Seq.{length-take-le, take-at, drop-at, take-add, drop-drop, take-append-add, drop-append-add, getD-at}
-use Rattle.meaning.specs.Blocks.{le32, wordBytes, words, sums, padded, block, sealed}
+use Rattle.meaning.specs.Blocks.{le32, wordBytes, words, sums, sumStart, padded, block, sealed}
 use Rattle.theory.proofs.Sealing.{length-sealed}
 use Rattle.image_words.specs.Words.{withWord}
 use Rattle.seal_sums.specs.Sealed.{payload, payloadsIn, withSums}
@@ -81,35 +81,35 @@ padded-full : (p : List ℕ) → length p ≡ 504 → padded p ≡ p
 unfolding padded
 padded-full p h = take-at p (replicate 504 0) 504 h
 
-sealed-snoc : (ps : List (List ℕ)) (p : List ℕ) (b : ℕ) → sealed (ps ++ (p ∷ [])) b ≡ sealed ps b ++ block (b + length ps) (padded p)
+sealed-snoc : (ps : List (List ℕ)) (p : List ℕ) (b : ℕ) → sealed sumStart (ps ++ (p ∷ [])) b ≡ sealed sumStart ps b ++ block (b + length ps) (padded p)
 unfolding sealed
 sealed-snoc [] p b = append-nil (block b (padded p)) ∙ ap (λ n. block n (padded p)) (let e : b ≡ b + 0 = omega arith in e)
 sealed-snoc (q ∷ ps) p b =
     ap (λ xs. block b (padded q) ++ xs)
-    (sealed-snoc ps p (suc b) ∙ ap (λ n. sealed ps (suc b) ++ block n (padded p)) (let e : suc b + length ps ≡ b + suc (length ps) = omega arith in e))
-    ∙ sym (append-assoc (block b (padded q)) (sealed ps (suc b)) (block (b + suc (length ps)) (padded p)))
+    (sealed-snoc ps p (suc b) ∙ ap (λ n. sealed sumStart ps (suc b) ++ block n (padded p)) (let e : suc b + length ps ≡ b + suc (length ps) = omega arith in e))
+    ∙ sym (append-assoc (block b (padded q)) (sealed sumStart ps (suc b)) (block (b + suc (length ps)) (padded p)))
 
 -- the image when the first k blocks are sealed
 abbrev pub sealedTo : List ℕ → ℕ → List ℕ
-sealedTo bytes k = sealed (payloadsIn bytes k) 0 ++ drop (512 * k) bytes
+sealedTo bytes k = sealed sumStart (payloadsIn bytes k) 0 ++ drop (512 * k) bytes
 
 pub sealed-none : (bytes : List ℕ) → bytes ≡ sealedTo bytes 0
 unfolding sealed payloadsIn
 sealed-none bytes = refl
 
 module _ (bytes : List ℕ) (k : ℕ) where
-  sealed-size : length (sealed (payloadsIn bytes k) 0) ≡ 512 * k
-  sealed-size = length-sealed (payloadsIn bytes k) 0 ∙ ap (λ n. 512 * n) (length-payloadsIn bytes k)
+  sealed-size : length (sealed sumStart (payloadsIn bytes k) 0) ≡ 512 * k
+  sealed-size = length-sealed sumStart (payloadsIn bytes k) 0 ∙ ap (λ n. 512 * n) (length-payloadsIn bytes k)
 
   pub length-sealedTo : 512 * k ≤ length bytes → length (sealedTo bytes k) ≡ length bytes
   length-sealedTo h =
-      omega (arith, length-append (sealed (payloadsIn bytes k) 0) (drop (512 * k) bytes), sealed-size, length-drop (512 * k) bytes)
+      omega (arith, length-append (sealed sumStart (payloadsIn bytes k) 0) (drop (512 * k) bytes), sealed-size, length-drop (512 * k) bytes)
 
   -- the sums of block k seal one block more
   pub sealed-next : 512 * k + 512 ≤ length bytes → withSums (sealedTo bytes k) k ≡ sealedTo bytes (suc k)
   unfolding withSums payloadsIn
   sealed-next h =
-      let done = sealed (payloadsIn bytes k) 0 in
+      let done = sealed sumStart (payloadsIn bytes k) 0 in
       let p = payload bytes k in
       let back = drop (512 * suc k) bytes in
       let after : drop (512 * k) (sealedTo bytes k) ≡ drop (512 * k) bytes = drop-at done (drop (512 * k) bytes) (512 * k) sealed-size in

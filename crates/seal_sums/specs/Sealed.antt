@@ -3,7 +3,7 @@ use mathlib.Core.Bool.{Bool}
 use mathlib.Core.List.{List, [], _∷_, _++_}
 use Prim.Native.Nat.{ℕ, zero, suc, _*_}
 use lib.ListN.{take, drop}
-use Rattle.meaning.specs.Blocks.{block, same}
+use Rattle.meaning.specs.Blocks.{sumStart, block, same}
 
 -- the payload of block b
 abbrev pub payload : List ℕ → ℕ → List ℕ
@@ -16,8 +16,8 @@ payloadsIn bytes (suc k) = payloadsIn bytes k ++ (payload bytes k ∷ [])
 
 -- does block b hold its payload's sums, as `wrongFrom` asks it?
 unfoldable pub rightAt : List ℕ → ℕ → Bool
-rightAt bytes b = let x = take 512 (drop (512 * b) bytes) in same (block b (take 504 x)) x
+rightAt bytes b = let x = take 512 (drop (512 * b) bytes) in same (block (sumStart b) (take 504 x)) x
 
 -- the image with the sums of block b written behind its payload
 unfoldable pub withSums : List ℕ → ℕ → List ℕ
-withSums bytes b = take (512 * b) bytes ++ (block b (payload bytes b) ++ drop (512 * suc b) bytes)
+withSums bytes b = take (512 * b) bytes ++ (block (sumStart b) (payload bytes b) ++ drop (512 * suc b) bytes)

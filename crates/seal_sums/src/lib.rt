@@ -3,7 +3,7 @@ ghost use mathlib.Core.Path.{_≡_};
 ghost use mathlib.Core.List.{_++_};
 ghost use Prim.Native.Nat.{_+_, _*_, _≤_};
 ghost use lib.ListN.{length, drop};
-ghost use Rattle.meaning.specs.Blocks.{sealed};
+ghost use Rattle.meaning.specs.Blocks.{sealed, sumStart};
 ghost use Rattle.seal_sums.specs.Sealed.{withSums, payloadsIn};
 use image_sums::block_sums;
 use image_words::put_word;
@@ -23,7 +23,7 @@ pub fn seal_block(b: &mut [u8], i: usize)
 pub fn seal_blocks(b: &mut [u8], blocks: usize)
     requires { ⌜ 512 * blocks ≤ length (now b) ⌝ }
     requires { ⌜ blocks ≤ 53 ⌝ }
-    ensures { λ _. ⌜ now (b .exit) ≡ sealed (payloadsIn (now (b .entry)) blocks) 0 ++ drop (512 * blocks) (now (b .entry)) ⌝ }
+    ensures { λ _. ⌜ now (b .exit) ≡ sealed sumStart (payloadsIn (now (b .entry)) blocks) 0 ++ drop (512 * blocks) (now (b .entry)) ⌝ }
 {
     let mut i: usize = 0;
     while i < blocks {

@@ -4,31 +4,12 @@ ghost use Prim.Native.Nat.{_+_, _-_, _*_, _/_, _<_, _≤_};
 ghost use lib.ListN.{length};
 ghost use Rattle.meaning.specs.Bytes.{bitsFrom};
 ghost use Rattle.string_end_laws.specs.Ends.{treeEnd};
-ghost use Rattle.falls.specs.Falls.{Falls};
+ghost use Rattle.string_skip.specs.Falls.{Falls};
 ghost use Rattle.string_end.specs.Ends.{endOf};
-use string_skip::Reading;
-use string_skip::over_bytes;
-use string_skip::over_words;
-
-// A table of sixteen rows of sixteen: how far the pending nodes fall at most, on the way through a byte; its row is that of its first four bits, its place there that of its last four.
-pub const FALLS: [[u8; 16]; 16] = [
-    [8, 7, 6, 6, 6, 5, 5, 5, 6, 5, 4, 4, 4, 4, 4, 4],
-    [6, 5, 4, 4, 4, 3, 3, 3, 4, 3, 3, 3, 3, 3, 3, 3],
-    [6, 5, 4, 4, 4, 3, 3, 3, 4, 3, 2, 2, 2, 2, 2, 2],
-    [4, 3, 2, 2, 2, 2, 2, 2, 2, 2, 2, 2, 2, 2, 2, 2],
-    [6, 5, 4, 4, 4, 3, 3, 3, 4, 3, 2, 2, 2, 2, 2, 2],
-    [4, 3, 2, 2, 2, 1, 1, 1, 2, 1, 1, 1, 1, 1, 1, 1],
-    [4, 3, 2, 2, 2, 1, 1, 1, 2, 1, 1, 1, 1, 1, 1, 1],
-    [2, 1, 1, 1, 1, 1, 1, 1, 1, 1, 1, 1, 1, 1, 1, 1],
-    [6, 5, 4, 4, 4, 3, 3, 3, 4, 3, 2, 2, 2, 2, 2, 2],
-    [4, 3, 2, 2, 2, 1, 1, 1, 2, 1, 1, 1, 1, 1, 1, 1],
-    [4, 3, 2, 2, 2, 1, 1, 1, 2, 1, 0, 0, 0, 0, 0, 0],
-    [2, 1, 0, 0, 0, 0, 0, 0, 0, 0, 0, 0, 0, 0, 0, 0],
-    [4, 3, 2, 2, 2, 1, 1, 1, 2, 1, 0, 0, 0, 0, 0, 0],
-    [2, 1, 0, 0, 0, 0, 0, 0, 0, 0, 0, 0, 0, 0, 0, 0],
-    [2, 1, 0, 0, 0, 0, 0, 0, 0, 0, 0, 0, 0, 0, 0, 0],
-    [0, 0, 0, 0, 0, 0, 0, 0, 0, 0, 0, 0, 0, 0, 0, 0],
-];
+use string_skip::ScanState;
+use string_skip::skip_bytes;
+use string_skip::skip_words;
+use string_skip::table_of_falls;
 
 // Where the tree that starts after `at` bits ends: the bits read by then and its nodes; or the bit at which it is refused.
 pub enum TreeEnd {
@@ -67,16 +48,16 @@ pub fn tree_end_by(b: &[u8], n: usize, at: usize, falls: &[[u8; 16]; 16]) -> Tre
         if p % 8 == 0 {
             if at + 2 <= p {
                 // Whole bytes at once, where their bits can neither close the tree nor pass the limit.
-                let words = over_words(
+                let words = skip_words(
                     b,
                     n,
-                    Reading {
+                    ScanState {
                         at: p / 8,
                         pending: pending,
                         room: room,
                     },
                 );
-                let bytes = over_bytes(b, n, falls, words);
+                let bytes = skip_bytes(b, n, falls, words);
                 if p < 8 * bytes.at {
                     pending = bytes.pending;
                     room = bytes.room;
@@ -121,6 +102,6 @@ pub fn tree_end(b: &[u8], n: usize, at: usize) -> TreeEnd
     requires { ⌜ n ≤ 8 * length (now b) ⌝ }
     ensures { λ r. ⌜ endOf r ≡ treeEnd (bitsFrom (now (b .entry)) at (n - at)) at ⌝ }
 {
-    let falls = FALLS;
+    let falls = table_of_falls();
     tree_end_by(b, n, at, &falls)
 }

@@ -9,7 +9,7 @@ use lib.ListN.{getD}
 use Rattle.meaning.specs.Strings.{Bit, O, I}
 use Rattle.meaning.specs.Bytes.{value, bitAt, bitsFrom}
 use Rattle.theory.proofs.Packing.{rest-cons, rest-nil}
-use Rattle.bit.proofs.Values.{digit-value}
+use Rattle.bits_byte.proofs.Values.{digit-value}
 use Rattle.string_end_laws.specs.Ends.{End, over, refused, insideEnd, treeEnd}
 
 -- ---- bits as numbers
@@ -58,12 +58,12 @@ step-on I bs i w (suc m) h g =
     ap₂ (insideEnd bs (suc i)) (let e : suc w ≡ w + 2 * 1 - 1 = omega arith in e) (let e : m ≡ suc m - 1 = omega arith in e)
 
 -- after r bits of a tree, the first two of them 10: w nodes are pending besides the one that is read, at first the super-root, and m more are allowed
-abbrev pub Counted : ℕ → ℕ → ℕ → Type 0
-Counted zero w m = (w ≡ 0) × (m ≡ 65535)
-Counted (suc zero) w m = (w ≡ 1) × (m ≡ 65534)
-Counted (suc (suc r)) w m = w + m ≤ 65534
+abbrev pub CountsAt : ℕ → ℕ → ℕ → Type 0
+CountsAt zero w m = (w ≡ 0) × (m ≡ 65535)
+CountsAt (suc zero) w m = (w ≡ 1) × (m ≡ 65534)
+CountsAt (suc (suc r)) w m = w + m ≤ 65534
 
-pub counted-inside : (r w m : ℕ) → 2 ≤ r → (Counted r w m → w + m ≤ 65534) × (w + m ≤ 65534 → Counted r w m)
+pub counted-inside : (r w m : ℕ) → 2 ≤ r → (CountsAt r w m → w + m ≤ 65534) × (w + m ≤ 65534 → CountsAt r w m)
 counted-inside zero w m h = absurd (omega arith)
 counted-inside (suc zero) w m h = absurd (omega arith)
 counted-inside (suc (suc r)) w m h = (λ k. k, λ k. k)
@@ -133,20 +133,20 @@ module _ (b : List ℕ) (n : ℕ) where
     read-wrong (suc (suc r)) e h = absurd (omega (arith, value-le (bitAt b p)))
 
     module _ (right : p ≡ at + x → ⊥) where
-      read-over : (r : ℕ) → p ≡ at + r → Counted r w m → w + x ≡ 0 → openEnd r at p w m ≡ over (p + 1) (65535 - m)
+      read-over : (r : ℕ) → p ≡ at + r → CountsAt r w m → w + x ≡ 0 → openEnd r at p w m ≡ over (p + 1) (65535 - m)
       unfolding openEnd
       read-over zero e k h = absurd (right (omega arith))
       read-over (suc zero) e k h = absurd (omega arith)
       read-over (suc (suc r)) e k h = end-over p w m x l v h
 
-      read-full : (r : ℕ) → p ≡ at + r → Counted r w m → m < x → openEnd r at p w m ≡ refused (p + 1)
+      read-full : (r : ℕ) → p ≡ at + r → CountsAt r w m → m < x → openEnd r at p w m ≡ refused (p + 1)
       unfolding openEnd
       read-full zero e k h = absurd (omega (arith, value-le (bitAt b p)))
       read-full (suc zero) e k h = absurd (omega (arith, value-le (bitAt b p)))
       read-full (suc (suc r)) e k h = end-full p w m x l v h
 
-      read-on : (r : ℕ) → p ≡ at + r → Counted r w m → (w + x ≡ 0 → ⊥) → x ≤ m
-          → (openEnd r at p w m ≡ openEnd (suc r) at (p + 1) (w + 2 * x - 1) (m - x)) × Counted (suc r) (w + 2 * x - 1) (m - x)
+      read-on : (r : ℕ) → p ≡ at + r → CountsAt r w m → (w + x ≡ 0 → ⊥) → x ≤ m
+          → (openEnd r at p w m ≡ openEnd (suc r) at (p + 1) (w + 2 * x - 1) (m - x)) × CountsAt (suc r) (w + 2 * x - 1) (m - x)
       unfolding openEnd treeEnd endFrom
       read-on zero e k h g =
           let one : x ≡ 1 = omega (arith, value-le (bitAt b p)) in
@@ -165,7 +165,7 @@ module _ (b : List ℕ) (n : ℕ) where
 pub record Open (b : List ℕ) (n at p w m : ℕ) : Type 0 where
   pub from : at ≤ p
   pub few : w + m ≤ 65535
-  pub counted : Counted (p - at) w m
+  pub counted : CountsAt (p - at) w m
   pub same : treeEnd (bitsFrom b at (n - at)) at ≡ openEnd b n (p - at) at p w m
 
 module _ (b : List ℕ) (n at : ℕ) where
@@ -176,7 +176,7 @@ module _ (b : List ℕ) (n at : ℕ) where
       record {
         from = omega arith;
         few = omega arith;
-        counted = subst (λ r. Counted r w m) (sym z) (f, g);
+        counted = subst (λ r. CountsAt r w m) (sym z) (f, g);
         same = ap (λ q. treeEnd (bitsFrom b q (n - q)) q) (sym e) ∙ ap (λ r. openEnd b n r at p w m) (sym z);
       }
 
@@ -221,6 +221,6 @@ module _ (b : List ℕ) (n at : ℕ) where
             record {
               from = omega arith;
               few = omega arith;
-              counted = subst (λ k. Counted k (w + 2 * x - 1) (m - x)) (sym e) (r .1);
+              counted = subst (λ k. CountsAt k (w + 2 * x - 1) (m - x)) (sym e) (r .1);
               same = o .same ∙ r .0 ∙ ap (λ k. openEnd b n k at (p + 1) (w + 2 * x - 1) (m - x)) (sym e);
             }

@@ -17,7 +17,8 @@ use Rattle.meaning.specs.Bytes.{bitsFrom, bytesFor, leftover, packed}
 use Rattle.meaning.specs.Scan.{one, place}
 use Rattle.meaning.specs.declared.Answer.{Answer}
 use Rattle.meaning.specs.Answers.{Row, _at_when_, counts, cameTo, settle, written, tooShort}
-use Rattle.meaning.specs.Calls.{stringOfParents, parentsOfString}
+use Rattle.meaning.specs.Tests.{parentRows}
+use Rattle.calls.specs.Calls.{stringOfParents, parentsOfString}
 use Rattle.theory.specs.Changes.{changed}
 use Rattle.theory.proofs.Settled.{or-neither, unequal, equal, settle-on}
 use Rattle.theory.proofs.Codes.{neither, not-unequal, listed-tree, none-held}
@@ -35,6 +36,7 @@ use Rattle.string_end.specs.declared.TreeEnd.{TreeEnd}
 use Rattle.string_end.specs.declared.TreeEnd.the-variants.{Over, Refused}
 use Rattle.string_end.specs.Ends.{endOf}
 use Rattle.string_end.specs.Numbers.{endRow}
+use Rattle.parents_check.proofs.Refusing.{passes}
 use Rattle.call_string_of_parents.proofs.Answers.{string-made}
 use Rattle.call_parents_of_string.proofs.Answers.{parents-made}
 use Rattle.string_promises.specs.Promises as P
@@ -51,7 +53,8 @@ tree-written : (t : Tree) (bytes : List ℕ) → nodes t ≤ 65535 → bytesFor 
 tree-written t bytes h room =
     let n = length-parents t in
     let p = parents-are t in
-    sym (string-made (parents t) bytes (p .some) (omega arith) (parents-badEntry (parents t) p) p (omega arith))
+    let passed = passes (parents t) (p .some) (omega arith) (parents-badEntry (parents t) p) in
+    sym (string-made (parents t) bytes passed (omega arith) refl refl)
     ∙ ap₂ (λ n bs. cameTo (counts (2 * n + 1) 1) (written (packed bs) bytes)) n (string-parents t)
 
 -- its string gives its parent list
@@ -77,7 +80,7 @@ written-then-read t bytes out h room roomOut =
 -- ---- of lists and bytes that are accepted
 
 pub list-written-exactly : P.ListWrittenExactly
-unfolding stringOfParents
+unfolding stringOfParents parentRows
 list-written-exactly ps bytes = (
   λ e.
       let h = none-held bytes _ _ 0 _ (omega arith) e .0 in

@@ -11,7 +11,7 @@ use Rattle.meaning.specs.Parents.{parents}
 use Rattle.meaning.specs.Strings.{lbs, parentsOf}
 use Rattle.meaning.specs.Bytes.{bitsFrom, bytesFor, leftover, packed}
 use Rattle.meaning.specs.Answers.{_at_when_, counts, cameTo, settle, written, tooShort}
-use Rattle.meaning.specs.Calls.{stringOfParents, parentsOfString}
+use Rattle.calls.specs.Calls.{stringOfParents, parentsOfString}
 use Rattle.theory.specs.Layout.{AreBytes}
 use Rattle.theory.specs.Changes.{changed}
 use Rattle.string_end_laws.specs.Ends.{treeEnd}

@@ -12,7 +12,7 @@ use Rattle.meaning.specs.Answers.{written}
 use Rattle.theory.proofs.Forms.{length-before}
 use Rattle.theory.proofs.Packing.{bits-length, bits-cut, bits-of-byte, rest-cons}
 use Rattle.theory.proofs.Payloads.{ones-le}
-use Rattle.bit.proofs.Values.{value-le}
+use Rattle.bits_byte.proofs.Values.{value-le}
 use Rattle.string_read.specs.Entered.{entered}
 
 ones-cons : (x : Bit) (bs : List Bit) → ones (x ∷ bs) ≡ value x + ones bs

@@ -7,7 +7,8 @@ ghost use Rattle.meaning.specs.Answers.{written};
 ghost use Rattle.meaning.specs.Bytes.{bitsFrom, leftover};
 ghost use Rattle.meaning.specs.Strings.{ones, parentsOf};
 ghost use Rattle.string_read.specs.Entered.{entered};
-use bit::bit_of;
+use bits_byte::bit_of;
+use bits_wide::wide_byte;
 
 // Is a leftover bit set, after the first `n` bits of `b`?
 pub fn leftover_set(b: &[u8], n: usize) -> bool
@@ -20,12 +21,6 @@ pub fn leftover_set(b: &[u8], n: usize) -> bool
     }
     let left = b[n / 8] << used;
     left != 0
-}
-
-fn count(x: u8) -> usize
-    ensures { λ r. ⌜ r ≡ x ⌝ }
-{
-    x as usize
 }
 
 // Writes the parents that the eight bits of a byte give, which p bits come before: the first of them into entry k. Answers the entry that comes next.
@@ -64,7 +59,7 @@ pub fn write_parents(b: &[u8], n: usize, nodes: usize, out: &mut [u32])
     let mut p = 8 * i;
     while k < nodes {
         out[k] = (p - k) as u32;
-        k = k + count(bit::bit_at(b, p));
+        k = k + wide_byte(bits_byte::bit_at(b, p));
         p += 1;
     }
 }

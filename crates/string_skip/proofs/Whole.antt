@@ -11,10 +11,10 @@ use Rattle.theory.proofs.Payloads.{ones-le}
 use Rattle.bits_byte.specs.Byte.{byteBits}
 use Rattle.string_end_laws.specs.Ends.{insideEnd}
 use Rattle.string_end_laws.proofs.Steps.{endFrom}
-use Rattle.falls.specs.Falls.{fall}
-use Rattle.falls.proofs.Falls.{fall-le, fall-whole}
+use Rattle.string_skip.specs.Falls.{fall}
+use Rattle.string_skip.proofs.Falls.{fall-le, fall-whole}
 use Rattle.string_skip.specs.Strides.{ReadOn, Stands, endAt}
-use Rattle.string_skip.specs.declared.Reading.{Reading}
+use Rattle.string_skip.specs.declared.ScanState.{ScanState}
 
 -- ---- bits that can neither close the tree nor pass its limit
 
@@ -32,7 +32,7 @@ skip (I ∷ as′) bs i p (suc m) h g = skip as′ bs (suc i) (suc p) m (omega a
 
 -- ---- k bytes more, x of their bits ones
 
-module _ (b : List ℕ) (n : ℕ) (f r : Reading) (h : ReadOn b n f r) (k x : ℕ) (l : r .at + k ≤ n / 8)
+module _ (b : List ℕ) (n : ℕ) (f r : ScanState) (h : ReadOn b n f r) (k x : ℕ) (l : r .at + k ≤ n / 8)
     (e : x ≡ ones (bitsFrom b (8 * r .at) (8 * k))) (g : fall (bitsFrom b (8 * r .at) (8 * k)) ≤ r .pending) where
   abbrev here : List Bit
   here = bitsFrom b (8 * r .at) (8 * k)
@@ -65,7 +65,7 @@ pub word-fall : (b : List ℕ) (p w : ℕ) → 64 ≤ w → fall (bitsFrom b p 6
 word-fall b p w h = omega (arith, fall-le (bitsFrom b p 64), bits-length b p 64)
 
 -- a byte, by its ones and its fall
-module _ (b : List ℕ) (n : ℕ) (f r : Reading) (h : ReadOn b n f r) {x y : ℕ} (l : r .at < n / 8)
+module _ (b : List ℕ) (n : ℕ) (f r : ScanState) (h : ReadOn b n f r) {x y : ℕ} (l : r .at < n / 8)
     (e : x ≡ ones (byteBits (getD b (r .at) 0))) (d : y ≡ fall (byteBits (getD b (r .at) 0))) (g : y ≤ r .pending) where
   its-bits : byteBits (getD b (r .at) 0) ≡ bitsFrom b (8 * r .at) 8
   its-bits = sym (ap (λ q. bitsFrom b q 8) (let e : 8 * r .at ≡ 8 * r .at + 0 = omega arith in e) ∙ bits-of-byte b (r .at) 0 8 (omega arith))
@@ -78,10 +78,10 @@ module _ (b : List ℕ) (n : ℕ) (f r : Reading) (h : ReadOn b n f r) {x y : �
 
 -- ---- whole bytes, from any bit that a byte begins with
 
-pub none-yet : (b : List ℕ) (n : ℕ) (r : Reading) → Stands n r → ReadOn b n r r
+pub none-yet : (b : List ℕ) (n : ℕ) (r : ScanState) → Stands n r → ReadOn b n r r
 none-yet b n r s = record { stands = s; on = omega arith; same = refl }
 
-pub all-at-once : (b : List ℕ) (n p w m : ℕ) {r s : Reading} → p % 8 ≡ 0 → ReadOn b n (record { at = p / 8; pending = w; room = m }) r → ReadOn b n r s
+pub all-at-once : (b : List ℕ) (n p w m : ℕ) {r s : ScanState} → p % 8 ≡ 0 → ReadOn b n (record { at = p / 8; pending = w; room = m }) r → ReadOn b n r s
     → endFrom b n p w m ≡ endFrom b n (8 * s .at) (s .pending) (s .room)
 unfolding endFrom endAt
 all-at-once b n p w m z h g = ap (λ q. endFrom b n q w m) (let e : p ≡ 8 * (p / 8) = omega arith in e) ∙ h .same ∙ g .same

@@ -1,28 +1,59 @@
-// Reading a tree by whole words and bytes, where their bits can neither close it nor pass its limit.
+// Whole words and bytes of a tree string passed over, where their bits can neither close the tree nor pass its limit.
 ghost use mathlib.Core.Path.{_≡_};
 ghost use Prim.Native.Nat.{_*_, _≤_};
 ghost use lib.ListN.{length};
-ghost use Rattle.falls.specs.Falls.{Falls};
+ghost use Rattle.bits_byte.specs.Byte.{byteBits};
+ghost use Rattle.string_skip.specs.Falls.{Falls, fall};
 ghost use Rattle.string_skip.specs.Strides.{ReadOn, Stands};
 use bits_byte::ones_in_byte;
+use bits_wide::wide;
 use bits_word::ones_in_word;
-use falls::fall_of;
+
+// A table of sixteen rows of sixteen: how far the pending nodes fall at most, on the way through a byte; its row is that of its first four bits, its place there that of its last four.
+const FALLS: [[u8; 16]; 16] = [
+    [8, 7, 6, 6, 6, 5, 5, 5, 6, 5, 4, 4, 4, 4, 4, 4],
+    [6, 5, 4, 4, 4, 3, 3, 3, 4, 3, 3, 3, 3, 3, 3, 3],
+    [6, 5, 4, 4, 4, 3, 3, 3, 4, 3, 2, 2, 2, 2, 2, 2],
+    [4, 3, 2, 2, 2, 2, 2, 2, 2, 2, 2, 2, 2, 2, 2, 2],
+    [6, 5, 4, 4, 4, 3, 3, 3, 4, 3, 2, 2, 2, 2, 2, 2],
+    [4, 3, 2, 2, 2, 1, 1, 1, 2, 1, 1, 1, 1, 1, 1, 1],
+    [4, 3, 2, 2, 2, 1, 1, 1, 2, 1, 1, 1, 1, 1, 1, 1],
+    [2, 1, 1, 1, 1, 1, 1, 1, 1, 1, 1, 1, 1, 1, 1, 1],
+    [6, 5, 4, 4, 4, 3, 3, 3, 4, 3, 2, 2, 2, 2, 2, 2],
+    [4, 3, 2, 2, 2, 1, 1, 1, 2, 1, 1, 1, 1, 1, 1, 1],
+    [4, 3, 2, 2, 2, 1, 1, 1, 2, 1, 0, 0, 0, 0, 0, 0],
+    [2, 1, 0, 0, 0, 0, 0, 0, 0, 0, 0, 0, 0, 0, 0, 0],
+    [4, 3, 2, 2, 2, 1, 1, 1, 2, 1, 0, 0, 0, 0, 0, 0],
+    [2, 1, 0, 0, 0, 0, 0, 0, 0, 0, 0, 0, 0, 0, 0, 0],
+    [2, 1, 0, 0, 0, 0, 0, 0, 0, 0, 0, 0, 0, 0, 0, 0],
+    [0, 0, 0, 0, 0, 0, 0, 0, 0, 0, 0, 0, 0, 0, 0, 0],
+];
+
+// A copy of the table. A constant array is put together on the stack where it is named, so that a
+// caller that reads many trees makes one copy and lends it to all.
+pub fn table_of_falls() -> [[u8; 16]; 16]
+    ensures { λ r. ⌜ Falls r ⌝ }
+{
+    FALLS
+}
+
+// The table's entry of a byte.
+fn fall_of(falls: &[[u8; 16]; 16], x: u8) -> usize
+    requires { ⌜ Falls (now falls) ⌝ }
+    ensures { λ r. ⌜ r ≡ fall (byteBits x) ⌝ }
+{
+    falls[(x / 16) as usize][(x % 16) as usize] as usize
+}
 
 // Where the reading of a tree stands before a byte: the bytes before it, the nodes that are pending besides the one that is read, and the nodes that are still allowed.
-pub struct Reading {
+pub struct ScanState {
     pub at: usize,
     pub pending: usize,
     pub room: usize,
 }
 
-fn wide(x: u32) -> usize
-    ensures { λ r. ⌜ r ≡ x ⌝ }
-{
-    x as usize
-}
-
 // Reads on by words of eight bytes, as long as each can neither close the tree nor pass the limit.
-pub fn over_words(b: &[u8], n: usize, from: Reading) -> Reading
+pub fn skip_words(b: &[u8], n: usize, from: ScanState) -> ScanState
     requires { ⌜ Stands n from ⌝ }
     requires { ⌜ n ≤ 131071 ⌝ }
     requires { ⌜ n ≤ 8 * length (now b) ⌝ }
@@ -37,7 +68,7 @@ pub fn over_words(b: &[u8], n: usize, from: Reading) -> Reading
         if r.room < opened {
             return r;
         }
-        r = Reading {
+        r = ScanState {
             at: r.at + 8,
             pending: r.pending + 2 * opened - 64,
             room: r.room - opened,
@@ -47,7 +78,7 @@ pub fn over_words(b: &[u8], n: usize, from: Reading) -> Reading
 }
 
 // Reads on by bytes, as long as each can neither close the tree nor pass the limit, and words cannot go on.
-pub fn over_bytes(b: &[u8], n: usize, falls: &[[u8; 16]; 16], from: Reading) -> Reading
+pub fn skip_bytes(b: &[u8], n: usize, falls: &[[u8; 16]; 16], from: ScanState) -> ScanState
     requires { ⌜ Stands n from ⌝ }
     requires { ⌜ n ≤ 131071 ⌝ }
     requires { ⌜ n ≤ 8 * length (now b) ⌝ }
@@ -65,7 +96,7 @@ pub fn over_bytes(b: &[u8], n: usize, falls: &[[u8; 16]; 16], from: Reading) -> 
         if r.room < opened {
             return r;
         }
-        r = Reading {
+        r = ScanState {
             at: at + 1,
             pending: r.pending + 2 * opened - 8,
             room: r.room - opened,

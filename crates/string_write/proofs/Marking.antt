@@ -11,7 +11,7 @@ use Rattle.meaning.specs.Parents.{IsParents}
 use Rattle.theory.specs.Layout.{AreBytes}
 use Rattle.theory.proofs.Forms.{string-size}
 use Rattle.bits_append.specs.Appended.{appended}
-use Rattle.bit.specs.Lit.{lit}
+use Rattle.bits_byte.specs.Lit.{lit}
 use Rattle.bits_append.proofs.Appending.{lit-length, lit-appended, appended-over}
 use Rattle.parents_check.proofs.Rising.{Rising, parents-rising}
 

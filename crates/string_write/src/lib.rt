@@ -5,7 +5,7 @@ ghost use lib.ListN.{length};
 ghost use Rattle.meaning.specs.Parents.{badEntry};
 ghost use Rattle.meaning.specs.Strings.{stringOf};
 ghost use Rattle.bits_append.specs.Appended.{appended};
-use parents_check::wide;
+use bits_wide::wide;
 
 // Writes the string of a parent list after the first `from` bits of a buffer: zeros, and among them a one for each entry, which comes
 // after the ones of earlier entries and as many zeros as the entry says.
@@ -20,7 +20,7 @@ pub fn write_string(buf: &mut [u8], from: usize, ps: &[u32])
     bits_append::blank(buf, from, 2 * ps.len() + 1);
     let mut i: usize = 0;
     while i < ps.len() {
-        bit::set_bit(buf, from + i + wide(ps[i]));
+        bits_byte::set_bit(buf, from + i + wide(ps[i]));
         i += 1;
     }
 }

@@ -5,9 +5,9 @@ use mathlib.Core.List.{List}
 use Prim.Native.Nat.{ℕ, _/_, _%_, _<_}
 use lib.Dec.{eqb}
 use lib.ListN.{length}
-use Rattle.meaning.specs.Calls.{outside, wrongSize}
+use Rattle.meaning.specs.Tests.{outside, wrongSize}
 use Rattle.theory.proofs.Settled.{or-first, or-second, or-neither, below, beyond, between, unequal, equal}
-use Rattle.table_sizes.specs.ToCheck.{Sized, ToldToCheck}
+use Rattle.table_sizes.specs.ToCheck.{ImageSized, ImageSize}
 
 module _ (image : List ℕ) where
   abbrev cut : Bool
@@ -25,11 +25,11 @@ module _ (image : List ℕ) where
   pub wrong-many : 53 < length image / 512 → wrongSize image ≡ true
   wrong-many h = or-second cut other (beyond 5 53 (length image / 512) h)
 
-  pub none-wrong : Sized (length image) → wrongSize image ≡ false
+  pub none-wrong : ImageSized (length image) → wrongSize image ≡ false
   none-wrong z = or-neither cut other (equal (length image % 512) 0 (z .whole)) (between 5 53 (length image / 512) (z .some) (z .most))
 
-  pub told-wrong : {r : Bool} → ToldToCheck r (length image) → r ≡ true → wrongSize image ≡ true
-  told-wrong t e = subst (λ b. ToldToCheck b (length image)) e t image refl
+  pub told-wrong : {r : Bool} → ImageSize r (length image) → r ≡ true → wrongSize image ≡ true
+  told-wrong t e = subst (λ b. ImageSize b (length image)) e t image refl
 
-pub told-right : (bytes : ℕ) {r : Bool} → ToldToCheck r bytes → r ≡ false → Sized bytes
-told-right bytes t e = subst (λ b. ToldToCheck b bytes) e t
+pub told-right : (bytes : ℕ) {r : Bool} → ImageSize r bytes → r ≡ false → ImageSized bytes
+told-right bytes t e = subst (λ b. ImageSize b bytes) e t

@@ -6,9 +6,9 @@ use native.Mathlib.Omega.{arith}
 use borrow.Author.Tests.{lt-ltb, le-ltb}
 use lib.Dec.{ltb}
 use Rattle.meaning.specs.Bytes.{bytesFor}
-use Rattle.meaning.specs.Calls.{outside}
+use Rattle.meaning.specs.Tests.{outside, wrongToJoin}
 use Rattle.theory.proofs.Settled.{or-first, or-second, or-neither, below, beyond, between}
-use Rattle.table_sizes.specs.ToJoin.{wrongSizes, Sized, ToldToJoin}
+use Rattle.table_sizes.specs.ToJoin.{JoinSized, JoinSizes}
 
 module _ (bytes L k nodes : ℕ) where
   -- the five tests
@@ -27,36 +27,36 @@ module _ (bytes L k nodes : ℕ) where
   abbrev a5 : Bool
   a5 = ltb 131071 (L + (2 * nodes + 1))
 
-  of-first : a1 ≡ true → wrongSizes bytes L k nodes ≡ true
-  unfolding wrongSizes
+  of-first : a1 ≡ true → wrongToJoin bytes L k nodes ≡ true
+  unfolding wrongToJoin
   of-first e = or-first (a1 || a2 || a3 || a4) a5 (or-first (a1 || a2 || a3) a4 (or-first (a1 || a2) a3 (or-first a1 a2 e)))
 
-  pub wrong-few : nodes < 1 → wrongSizes bytes L k nodes ≡ true
-  unfolding wrongSizes
+  pub wrong-few : nodes < 1 → wrongToJoin bytes L k nodes ≡ true
+  unfolding wrongToJoin
   wrong-few h = of-first (below 1 65535 nodes h)
 
-  pub wrong-many : 65535 < nodes → wrongSizes bytes L k nodes ≡ true
-  unfolding wrongSizes
+  pub wrong-many : 65535 < nodes → wrongToJoin bytes L k nodes ≡ true
+  unfolding wrongToJoin
   wrong-many h = of-first (beyond 1 65535 nodes h)
 
-  pub wrong-long : 131071 < L → wrongSizes bytes L k nodes ≡ true
-  unfolding wrongSizes
+  pub wrong-long : 131071 < L → wrongToJoin bytes L k nodes ≡ true
+  unfolding wrongToJoin
   wrong-long h = or-first (a1 || a2 || a3 || a4) a5 (or-first (a1 || a2 || a3) a4 (or-first (a1 || a2) a3 (or-second a1 a2 (lt-ltb 131071 L h))))
 
-  pub wrong-bytes : bytes < bytesFor L → wrongSizes bytes L k nodes ≡ true
-  unfolding wrongSizes
+  pub wrong-bytes : bytes < bytesFor L → wrongToJoin bytes L k nodes ≡ true
+  unfolding wrongToJoin
   wrong-bytes h = or-first (a1 || a2 || a3 || a4) a5 (or-first (a1 || a2 || a3) a4 (or-second (a1 || a2) a3 (lt-ltb bytes (bytesFor L) h)))
 
-  pub wrong-trees : 255 < k → wrongSizes bytes L k nodes ≡ true
-  unfolding wrongSizes
+  pub wrong-trees : 255 < k → wrongToJoin bytes L k nodes ≡ true
+  unfolding wrongToJoin
   wrong-trees h = or-first (a1 || a2 || a3 || a4) a5 (or-second (a1 || a2 || a3) a4 (lt-ltb 255 k h))
 
-  pub wrong-longer : 131071 < L + (2 * nodes + 1) → wrongSizes bytes L k nodes ≡ true
-  unfolding wrongSizes
+  pub wrong-longer : 131071 < L + (2 * nodes + 1) → wrongToJoin bytes L k nodes ≡ true
+  unfolding wrongToJoin
   wrong-longer h = or-second (a1 || a2 || a3 || a4) a5 (lt-ltb 131071 (L + (2 * nodes + 1)) h)
 
-  pub none-wrong : Sized bytes L k nodes → wrongSizes bytes L k nodes ≡ false
-  unfolding wrongSizes
+  pub none-wrong : JoinSized bytes L k nodes → wrongToJoin bytes L k nodes ≡ false
+  unfolding wrongToJoin
   none-wrong s =
       or-neither (a1 || a2 || a3 || a4) a5
       (or-neither (a1 || a2 || a3) a4
@@ -66,8 +66,8 @@ module _ (bytes L k nodes : ℕ) where
       (le-ltb 255 k (s .room)))
       (le-ltb 131071 (L + (2 * nodes + 1)) (s .fits))
 
-  pub told-wrong : {r : Bool} → ToldToJoin r bytes L k nodes → r ≡ true → wrongSizes bytes L k nodes ≡ true
-  told-wrong t e = subst (λ b. ToldToJoin b bytes L k nodes) e t
+  pub told-wrong : {r : Bool} → JoinSizes r bytes L k nodes → r ≡ true → wrongToJoin bytes L k nodes ≡ true
+  told-wrong t e = subst (λ b. JoinSizes b bytes L k nodes) e t
 
-  pub told-right : {r : Bool} → ToldToJoin r bytes L k nodes → r ≡ false → Sized bytes L k nodes
-  told-right t e = subst (λ b. ToldToJoin b bytes L k nodes) e t
+  pub told-right : {r : Bool} → JoinSizes r bytes L k nodes → r ≡ false → JoinSized bytes L k nodes
+  told-right t e = subst (λ b. JoinSizes b bytes L k nodes) e t

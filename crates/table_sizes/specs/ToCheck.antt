@@ -4,15 +4,15 @@ use mathlib.Core.Bool.{Bool, true, false}
 use mathlib.Core.List.{List}
 use Prim.Native.Nat.{ℕ, _/_, _%_, _≤_}
 use lib.ListN.{length}
-use Rattle.meaning.specs.Calls.{wrongSize}
+use Rattle.meaning.specs.Tests.{wrongSize}
 
 -- whole blocks, 5 to 53 of them
-pub record Sized (bytes : ℕ) : Type 0 where
+pub record ImageSized (bytes : ℕ) : Type 0 where
   pub whole : bytes % 512 ≡ 0
   pub some : 5 ≤ bytes / 512
   pub most : bytes / 512 ≤ 53
 
 -- what the test of the size tells of any image with so many bytes
-abbrev pub ToldToCheck : Bool → ℕ → Type 0
-ToldToCheck true bytes = (image : List ℕ) → length image ≡ bytes → wrongSize image ≡ true
-ToldToCheck false bytes = Sized bytes
+abbrev pub ImageSize : Bool → ℕ → Type 0
+ImageSize true bytes = (image : List ℕ) → length image ≡ bytes → wrongSize image ≡ true
+ImageSize false bytes = ImageSized bytes

@@ -1,7 +1,7 @@
 // The sizes of packs that are split, of packs and trees that are joined, and of images (document 01, code 2).
-ghost use Rattle.table_sizes.specs.ToSplit.{ToldToSplit};
-ghost use Rattle.table_sizes.specs.ToJoin.{ToldToJoin};
-ghost use Rattle.table_sizes.specs.ToCheck.{ToldToCheck};
+ghost use Rattle.table_sizes.specs.ToSplit.{SplitSizes};
+ghost use Rattle.table_sizes.specs.ToJoin.{JoinSizes};
+ghost use Rattle.table_sizes.specs.ToCheck.{ImageSize};
 use meaning::FEWEST_BLOCKS;
 use meaning::MOST_BITS;
 use meaning::MOST_BLOCKS;
@@ -9,8 +9,8 @@ use meaning::MOST_NODES;
 use meaning::MOST_TREES;
 
 // Is the number of bytes, bits or trees of a pack that is to be split wrong?
-pub fn wrong_to_split(bytes: usize, bits: usize, trees: usize) -> bool
-    ensures { λ r. ⌜ ToldToSplit r bytes bits trees ⌝ }
+pub fn split_sizes_wrong(bytes: usize, bits: usize, trees: usize) -> bool
+    ensures { λ r. ⌜ SplitSizes r bytes bits trees ⌝ }
 {
     if MOST_BITS < bits {
         return true;
@@ -25,8 +25,8 @@ pub fn wrong_to_split(bytes: usize, bits: usize, trees: usize) -> bool
 }
 
 // Is the number of bytes, earlier bits or trees of a pack, or of nodes of a tree that is to be joined to it, wrong?
-pub fn wrong_to_join(bytes: usize, earlier: usize, trees: usize, nodes: usize) -> bool
-    ensures { λ r. ⌜ ToldToJoin r bytes earlier trees nodes ⌝ }
+pub fn join_sizes_wrong(bytes: usize, earlier: usize, trees: usize, nodes: usize) -> bool
+    ensures { λ r. ⌜ JoinSizes r bytes earlier trees nodes ⌝ }
 {
     if nodes < 1 {
         return true;
@@ -51,8 +51,8 @@ pub fn wrong_to_join(bytes: usize, earlier: usize, trees: usize, nodes: usize) -
 }
 
 // Is the number of bytes of an image wrong?
-pub fn wrong_to_check(bytes: usize) -> bool
-    ensures { λ r. ⌜ ToldToCheck r bytes ⌝ }
+pub fn image_size_wrong(bytes: usize) -> bool
+    ensures { λ r. ⌜ ImageSize r bytes ⌝ }
 {
     if bytes % 512 != 0 {
         return true;

@@ -10,10 +10,12 @@ use lib.ListN.{length}
 use Rattle.meaning.specs.Trees.{Tree, nodes}
 use Rattle.meaning.specs.Parents.{parents, badEntry}
 use Rattle.meaning.specs.declared.Answer.{Answer}
-use Rattle.meaning.specs.Answers.{Row, settle}
-use Rattle.meaning.specs.Calls.{outside, wrongCount}
+use Rattle.meaning.specs.declared.Refusal.{Refusal}
+use Rattle.meaning.specs.declared.Verdict.the-variants.{Refused}
+use Rattle.meaning.specs.Answers.{Row, firstHolding, settle}
+use Rattle.meaning.specs.Tests.{outside, wrongCount}
 use Rattle.theory.specs.Rows.{NoneHolds}
-use Rattle.theory.proofs.Settled.{settle-here, settle-on, settle-none}
+use Rattle.theory.proofs.Settled.{refusalOf, clash, first-none, first-here, first-on, settle-here, settle-on, settle-none}
 use Rattle.theory.proofs.Parents.{are-parents}
 use Rattle.theory.proofs.Lowest.{no-bad}
 use Rattle.theory.proofs.Forms.{length-parents}
@@ -27,7 +29,7 @@ neither false t e = (refl, e)
 pub not-unequal : (x y : ℕ) → not (eqb x y) ≡ false → x ≡ y
 not-unequal x y e = eqb-true x y (not-false (eqb x y) e)
 
-not-outside : (low high x : ℕ) → outside low high x ≡ false → (low ≤ x) × (x ≤ high)
+pub not-outside : (low high x : ℕ) → outside low high x ≡ false → (low ≤ x) × (x ≤ high)
 not-outside low high x e = let n = neither (ltb x low) (ltb high x) e in (ltb-false x low (n .0), ltb-false high x (n .1))
 
 -- a list that neither its count nor an entry refuses is some tree's
@@ -43,6 +45,18 @@ listed-tree ps c b =
 abbrev pub Others : ℕ → List Row → Type 0
 Others c [] = Unit
 Others c (r ∷ rs) = (r .code ≡ c → ⊥) × Others c rs
+
+-- a code that no row has is no refusal's
+pub first-other : (c : ℕ) (rows : List Row) → Others c rows → {x : Refusal} → firstHolding rows ≡ Refused x → x .code ≡ c → ⊥
+first-other c [] o e z = clash (sym e ∙ first-none)
+first-other c (r ∷ rs) o {x} e z = go (r .holds) refl (λ f. first-other c rs (o .1) (sym (first-on r rs f) ∙ e) z)
+  where
+    go : (b : Bool) → r .holds ≡ b → (r .holds ≡ false → ⊥) → ⊥
+    go true f later =
+        let q : Refused x ≡ Refused (refusalOf r) = sym e ∙ first-here r rs f in
+        let same : x ≡ refusalOf r = cc in
+        o .0 (sym (ap (λ y. y .code) same) ∙ z)
+    go false f later = later f
 
 module _ {A : Type 0} (before : A) (a : Answer) (after : A) (c : ℕ) where
   -- a row of another code did not hold, and those below it gave the code

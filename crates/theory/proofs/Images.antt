@@ -8,7 +8,7 @@ use lib.ListN.{length, getD, take, drop, length-append, length-map, List·getD-a
 use lib.Seq.{getD-append-add}
 use Rattle.meaning.specs.Strings.{Bit, ones}
 use Rattle.meaning.specs.Bytes.{bytesOf}
-use Rattle.meaning.specs.Blocks.{le32, wordBytes, cut, sealed, wrongBlock}
+use Rattle.meaning.specs.Blocks.{le32, wordBytes, sumStart, cut, sealed, wrongBlock}
 use Rattle.meaning.specs.Image.{stringBlocks, stringPayloads, samples, sampleBlocks, payloads, header, imageOfParts}
 use Rattle.theory.specs.Layout.{AreBytes, wordAt, stringWord, sampleWord, startR0, startS1, startS0, total, Laid}
 use Rattle.theory.proofs.Digits.{wordBytes-at, words-bytes}
@@ -71,7 +71,7 @@ module _ (a b : List Bit) where
   unfoldable pub blocks : List (List ℕ)
   blocks = header a b ∷ payloads a b
 
-  pub image-blocks : imageOfParts a b ≡ sealed blocks 0
+  pub image-blocks : imageOfParts a b ≡ sealed sumStart blocks 0
   unfolding imageOfParts blocks
   image-blocks = refl
 
@@ -94,7 +94,7 @@ module _ (a b : List Bit) where
   length-blocks = length-payloads
 
   pub parts-size : length (imageOfParts a b) ≡ 512 * total a b
-  parts-size = ap length image-blocks ∙ length-sealed blocks 0 ∙ ap (λ n. 512 * n) length-blocks
+  parts-size = ap length image-blocks ∙ length-sealed sumStart blocks 0 ∙ ap (λ n. 512 * n) length-blocks
 
   -- the sums of an image check
   pub parts-check : wrongBlock (imageOfParts a b) ≡ total a b
@@ -159,7 +159,7 @@ module _ (a b : List Bit) (la : length a ≤ 65535) (lb : length b ≤ 65536) wh
 
   -- payload word w of block i
   word-is : (i w : ℕ) → i < total a b → w < 126 → wordAt (imageOfParts a b) (512 * i + 4 * w) ≡ wordAt (getD (blocks a b) i []) (4 * w)
-  word-is i w h g = ap (λ x. wordAt x (512 * i + 4 * w)) (image-blocks a b) ∙ sealed-word (blocks a b) i w (omega (arith, length-blocks a b)) g
+  word-is i w h g = ap (λ x. wordAt x (512 * i + 4 * w)) (image-blocks a b) ∙ sealed-word sumStart (blocks a b) i w (omega (arith, length-blocks a b)) g
 
   pub laid : Laid (imageOfParts a b) a b
   laid = record {

@@ -102,23 +102,23 @@ stops-lowest qs r s =
     prior (suc (suc k)) g l = said-rule qs k (λ m f. s .before m (omega (arith, s .is)))
 
 -- what `badEntry` says of a list that is not empty
-abbrev Says : List ℕ → ℕ → Type 0
-Says ps r = ((r ≡ 0) × IsParents ps) ⊎ Lowest ps r
+abbrev Decides : List ℕ → ℕ → Type 0
+Decides ps r = ((r ≡ 0) × IsParents ps) ⊎ Lowest ps r
 
-says-zero : (qs : List ℕ) (r : ℕ) → Verdict 1 1 qs r → Says (0 ∷ qs) r
-says-zero qs r (inl v) = inl (v .0, record { some = omega arith; rule = later-rule qs (v .1) })
-says-zero qs r (inr v) = inr (stops-lowest qs r v)
+decides-zero : (qs : List ℕ) (r : ℕ) → Verdict 1 1 qs r → Decides (0 ∷ qs) r
+decides-zero qs r (inl v) = inl (v .0, record { some = omega arith; rule = later-rule qs (v .1) })
+decides-zero qs r (inr v) = inr (stops-lowest qs r v)
 
-says : (p : ℕ) (qs : List ℕ) → Says (p ∷ qs) (badEntry (p ∷ qs))
+says : (p : ℕ) (qs : List ℕ) → Decides (p ∷ qs) (badEntry (p ∷ qs))
 unfolding badEntry
 says p qs = go (eqb p 0) refl
   where
-    go : (b : Bool) → eqb p 0 ≡ b → Says (p ∷ qs) (cond (eqb p 0) (badFrom qs 1 1) 1)
+    go : (b : Bool) → eqb p 0 ≡ b → Decides (p ∷ qs) (cond (eqb p 0) (badFrom qs 1 1) 1)
     go true e =
-        subst (λ c. Says (p ∷ qs) (cond c (badFrom qs 1 1) 1)) (sym e)
-        (subst (λ q. Says (q ∷ qs) (badFrom qs 1 1)) (sym (eqb-true p 0 e)) (says-zero qs (badFrom qs 1 1) (verdict qs 1 1)))
+        subst (λ c. Decides (p ∷ qs) (cond c (badFrom qs 1 1) 1)) (sym e)
+        (subst (λ q. Decides (q ∷ qs) (badFrom qs 1 1)) (sym (eqb-true p 0 e)) (decides-zero qs (badFrom qs 1 1) (verdict qs 1 1)))
     go false e =
-        subst (λ c. Says (p ∷ qs) (cond c (badFrom qs 1 1) 1)) (sym e)
+        subst (λ c. Decides (p ∷ qs) (cond c (badFrom qs 1 1) 1)) (sym e)
         (inr (record { from = omega arith; to = omega arith; before = λ i g l. absurd (omega arith); here = eqb-false p 0 e }))
 
 lowest-not : (ps : List ℕ) (r : ℕ) → Lowest ps r → IsParents ps → ⊥
@@ -131,21 +131,21 @@ badEntry-is (p ∷ qs) h = says p qs
 pub no-bad : (ps : List ℕ) → 1 ≤ length ps → badEntry ps ≡ 0 → IsParents ps
 no-bad ps h e = go (badEntry-is ps h)
   where
-    go : Says ps (badEntry ps) → IsParents ps
+    go : Decides ps (badEntry ps) → IsParents ps
     go (inl v) = v .1
     go (inr v) = absurd (omega (arith, v .from))
 
 pub parents-badEntry : (ps : List ℕ) → IsParents ps → badEntry ps ≡ 0
 parents-badEntry ps h = go (badEntry-is ps (h .some))
   where
-    go : Says ps (badEntry ps) → badEntry ps ≡ 0
+    go : Decides ps (badEntry ps) → badEntry ps ≡ 0
     go (inl v) = v .0
     go (inr v) = absurd (lowest-not ps _ v h)
 
 pub bad-within : (ps : List ℕ) → 1 ≤ length ps → badEntry ps ≤ length ps
 bad-within ps h = go (badEntry-is ps h)
   where
-    go : Says ps (badEntry ps) → badEntry ps ≤ length ps
+    go : Decides ps (badEntry ps) → badEntry ps ≤ length ps
     go (inl v) = omega (arith, v .0)
     go (inr v) = v .to
 

@@ -85,108 +85,113 @@ length-sums (w ∷ ws) s t = length-sums ws ((s + w) % 2 ^ 32) ((t + (s + w) % 2
 pub length-block : (b : ℕ) (payload : List ℕ) → length payload ≡ 504 → length (block b payload) ≡ 512
 unfolding block
 length-block b payload h =
-    let ss = sums (words payload) (sumStart b) 0 in
-    omega (arith, length-append payload (wordBytes ss), length-wordBytes ss, length-sums (words payload) (sumStart b) 0)
-
-sealed-length : (p : List ℕ) (b : ℕ) → length (block b (padded p)) ≡ 512
-sealed-length p b = length-block b (padded p) (length-padded p)
-
-pub length-sealed : (ps : List (List ℕ)) (b : ℕ) → length (sealed ps b) ≡ 512 * length ps
-unfolding sealed
-length-sealed [] b = refl
-length-sealed (p ∷ ps) b =
-    length-append (block b (padded p)) (sealed ps (suc b)) ∙ omega (arith, sealed-length p b, length-sealed ps (suc b))
-
--- byte r of the payload of block j
-pub sealed-at : (ps : List (List ℕ)) (b j r : ℕ) → j < length ps → r < 504 → getD (sealed ps b) (512 * j + r) 0 ≡ getD (padded (getD ps j [])) r 0
-unfolding sealed block
-sealed-at [] b j r h g = absurd (omega arith)
-sealed-at (p ∷ ps) b zero r h g =
-    ap (λ k. getD (block b (padded p) ++ sealed ps (suc b)) k 0) (let e : 512 * 0 + r ≡ r = omega arith in e)
-    ∙ List·getD-append (block b (padded p)) (sealed ps (suc b)) 0 r (omega (arith, sealed-length p b))
-    ∙ List·getD-append (padded p) (wordBytes (sums (words (padded p)) (sumStart b) 0)) 0 r (omega (arith, length-padded p))
-sealed-at (p ∷ ps) b (suc j) r h g =
-    ap (λ k. getD (block b (padded p) ++ sealed ps (suc b)) k 0) (let e : 512 * suc j + r ≡ length (block b (padded p)) + (512 * j + r) = omega (arith, sealed-length p b) in e)
-    ∙ getD-append-add (block b (padded p)) (sealed ps (suc b)) (512 * j + r) 0
-    ∙ sealed-at ps (suc b) j r (omega arith) g
-
--- payload word w of block j
-pub sealed-word : (ps : List (List ℕ)) (j w : ℕ) → j < length ps → w < 126 → wordAt (sealed ps 0) (512 * j + 4 * w) ≡ wordAt (getD ps j []) (4 * w)
-unfolding wordAt
-sealed-word ps j w h g = omega (arith, byte 0 (omega arith), byte 1 (omega arith), byte 2 (omega arith), byte 3 (omega arith), none, nothing)
-  where
-    none : getD (sealed ps 0) (512 * j + 4 * w + 0) 0 ≡ getD (sealed ps 0) (512 * j + 4 * w) 0
-    none = ap (λ i. getD (sealed ps 0) i 0) (let e : 512 * j + 4 * w + 0 ≡ 512 * j + 4 * w = omega arith in e)
-
-    nothing : getD (getD ps j []) (4 * w + 0) 0 ≡ getD (getD ps j []) (4 * w) 0
-    nothing = ap (λ i. getD (getD ps j []) i 0) (let e : 4 * w + 0 ≡ 4 * w = omega arith in e)
-
-    byte : (k : ℕ) → k < 4 → getD (sealed ps 0) (512 * j + 4 * w + k) 0 ≡ getD (getD ps j []) (4 * w + k) 0
-    byte k l =
-        ap (λ i. getD (sealed ps 0) i 0) (let e : 512 * j + 4 * w + k ≡ 512 * j + (4 * w + k) = omega arith in e)
-        ∙ sealed-at ps 0 j (4 * w + k) h (omega arith) ∙ padded-at (getD ps j []) (4 * w + k) (omega arith)
-
--- ---- the check of the sums
-
-chosen : {t : Bool} (x y : ℕ) → t ≡ true → cond t x y ≡ x
-chosen x y e = ap (λ t. cond t x y) e
-
-block-payload : (b : ℕ) (p : List ℕ) → take 504 (block b (padded p)) ≡ padded p
-unfolding block
-block-payload b p = take-at (padded p) (wordBytes (sums (words (padded p)) (sumStart b) 0)) 504 (length-padded p)
-
-sealed-right : (ps : List (List ℕ)) (b : ℕ) → wrongFrom (cut (length ps) 512 (sealed ps b)) b ≡ b + length ps
-unfolding wrongFrom cut sealed
-sealed-right [] b = omega arith
-sealed-right (p ∷ ps) b =
-    let x = block b (padded p) in
-    let rest = sealed ps (suc b) in
-    let here : take 512 (x ++ rest) ≡ x = take-at x rest 512 (sealed-length p b) in
-    let right : same (block b (take 504 (take 512 (x ++ rest)))) (take 512 (x ++ rest)) ≡ true =
-    ap (λ y. same (block b (take 504 y)) y) here ∙ ap (λ y. same (block b y) x) (block-payload b p) ∙ same-refl x in
-    chosen (wrongFrom (cut (length ps) 512 (drop 512 (x ++ rest))) (suc b)) b right
-    ∙ ap (λ y. wrongFrom (cut (length ps) 512 y) (suc b)) (drop-at x rest 512 (sealed-length p b))
-    ∙ sealed-right ps (suc b) ∙ omega arith
-
--- sealed payloads always check
-pub sealed-checks : (ps : List (List ℕ)) → wrongBlock (sealed ps 0) ≡ length ps
-unfolding wrongBlock
-sealed-checks ps =
-    ap (λ k. wrongFrom (cut k 512 (sealed ps 0)) 0) (let e : blocksIn (sealed ps 0) ≡ length ps = omega (arith, length-sealed ps 0) in e)
-    ∙ sealed-right ps 0 ∙ omega arith
+    let ss = sums (words payload) b 0 in
+    omega (arith, length-append payload (wordBytes ss), length-wordBytes ss, length-sums (words payload) b 0)
 
 -- no block is wrong: this one is right, and so are the later ones
 all-right : (t : Bool) (rest b n : ℕ) → cond t rest b ≡ b + suc n → (t ≡ true) × (rest ≡ suc b + n)
 all-right true rest b n e = (refl, omega arith)
 all-right false rest b n e = absurd (omega arith)
 
+-- ---- whatever the s of each block starts with
+
+module _ (start : ℕ → ℕ) where
+  sealed-length : (p : List ℕ) (b : ℕ) → length (block (start b) (padded p)) ≡ 512
+  sealed-length p b = length-block (start b) (padded p) (length-padded p)
+
+  -- byte r of the payload of block j
+  pub sealed-at : (ps : List (List ℕ)) (b j r : ℕ) → j < length ps → r < 504 → getD (sealed start ps b) (512 * j + r) 0 ≡ getD (padded (getD ps j [])) r 0
+  unfolding sealed block
+  sealed-at [] b j r h g = absurd (omega arith)
+  sealed-at (p ∷ ps) b zero r h g =
+      ap (λ k. getD (block (start b) (padded p) ++ sealed start ps (suc b)) k 0) (let e : 512 * 0 + r ≡ r = omega arith in e)
+      ∙ List·getD-append (block (start b) (padded p)) (sealed start ps (suc b)) 0 r (omega (arith, sealed-length p b))
+      ∙ List·getD-append (padded p) (wordBytes (sums (words (padded p)) (start b) 0)) 0 r (omega (arith, length-padded p))
+  sealed-at (p ∷ ps) b (suc j) r h g =
+      ap (λ k. getD (block (start b) (padded p) ++ sealed start ps (suc b)) k 0) (let e : 512 * suc j + r ≡ length (block (start b) (padded p)) + (512 * j + r) = omega (arith, sealed-length p b) in e)
+      ∙ getD-append-add (block (start b) (padded p)) (sealed start ps (suc b)) (512 * j + r) 0
+      ∙ sealed-at ps (suc b) j r (omega arith) g
+
+  -- payload word w of block j
+  pub sealed-word : (ps : List (List ℕ)) (j w : ℕ) → j < length ps → w < 126 → wordAt (sealed start ps 0) (512 * j + 4 * w) ≡ wordAt (getD ps j []) (4 * w)
+  unfolding wordAt
+  sealed-word ps j w h g = omega (arith, byte 0 (omega arith), byte 1 (omega arith), byte 2 (omega arith), byte 3 (omega arith), none, nothing)
+    where
+      none : getD (sealed start ps 0) (512 * j + 4 * w + 0) 0 ≡ getD (sealed start ps 0) (512 * j + 4 * w) 0
+      none = ap (λ i. getD (sealed start ps 0) i 0) (let e : 512 * j + 4 * w + 0 ≡ 512 * j + 4 * w = omega arith in e)
+
+      nothing : getD (getD ps j []) (4 * w + 0) 0 ≡ getD (getD ps j []) (4 * w) 0
+      nothing = ap (λ i. getD (getD ps j []) i 0) (let e : 4 * w + 0 ≡ 4 * w = omega arith in e)
+
+      byte : (k : ℕ) → k < 4 → getD (sealed start ps 0) (512 * j + 4 * w + k) 0 ≡ getD (getD ps j []) (4 * w + k) 0
+      byte k l =
+          ap (λ i. getD (sealed start ps 0) i 0) (let e : 512 * j + 4 * w + k ≡ 512 * j + (4 * w + k) = omega arith in e)
+          ∙ sealed-at ps 0 j (4 * w + k) h (omega arith) ∙ padded-at (getD ps j []) (4 * w + k) (omega arith)
+
+  -- ---- the check of the sums
+
+  chosen : {t : Bool} (x y : ℕ) → t ≡ true → cond t x y ≡ x
+  chosen x y e = ap (λ t. cond t x y) e
+
+  block-payload : (b : ℕ) (p : List ℕ) → take 504 (block (start b) (padded p)) ≡ padded p
+  unfolding block
+  block-payload b p = take-at (padded p) (wordBytes (sums (words (padded p)) (start b) 0)) 504 (length-padded p)
+
+  sealed-right : (ps : List (List ℕ)) (b : ℕ) → wrongFrom start (cut (length ps) 512 (sealed start ps b)) b ≡ b + length ps
+  unfolding wrongFrom cut sealed
+  sealed-right [] b = omega arith
+  sealed-right (p ∷ ps) b =
+      let x = block (start b) (padded p) in
+      let rest = sealed start ps (suc b) in
+      let here : take 512 (x ++ rest) ≡ x = take-at x rest 512 (sealed-length p b) in
+      let right : same (block (start b) (take 504 (take 512 (x ++ rest)))) (take 512 (x ++ rest)) ≡ true =
+      ap (λ y. same (block (start b) (take 504 y)) y) here ∙ ap (λ y. same (block (start b) y) x) (block-payload b p) ∙ same-refl x in
+      chosen (wrongFrom start (cut (length ps) 512 (drop 512 (x ++ rest))) (suc b)) b right
+      ∙ ap (λ y. wrongFrom start (cut (length ps) 512 y) (suc b)) (drop-at x rest 512 (sealed-length p b))
+      ∙ sealed-right ps (suc b) ∙ omega arith
+
+pub length-sealed : (start : ℕ → ℕ) (ps : List (List ℕ)) (b : ℕ) → length (sealed start ps b) ≡ 512 * length ps
+unfolding sealed
+length-sealed start [] b = refl
+length-sealed start (p ∷ ps) b =
+    length-append (block (start b) (padded p)) (sealed start ps (suc b)) ∙ omega (arith, sealed-length start p b, length-sealed start ps (suc b))
+
 -- and the other way
-unsealed : (ps : List (List ℕ)) (bytes : List ℕ) (b : ℕ) → length bytes ≡ 512 * length ps → wrongFrom (cut (length ps) 512 bytes) b ≡ b + length ps
-    → ((j : ℕ) → j < length ps → take 504 (drop (512 * j) bytes) ≡ padded (getD ps j [])) → bytes ≡ sealed ps b
+unsealed : (start : ℕ → ℕ) (ps : List (List ℕ)) (bytes : List ℕ) (b : ℕ) → length bytes ≡ 512 * length ps → wrongFrom start (cut (length ps) 512 bytes) b ≡ b + length ps
+    → ((j : ℕ) → j < length ps → take 504 (drop (512 * j) bytes) ≡ padded (getD ps j [])) → bytes ≡ sealed start ps b
 unfolding wrongFrom cut sealed
-unsealed [] [] b l e h = refl
-unsealed [] (x ∷ bytes) b l e h = absurd (omega arith)
-unsealed (p ∷ ps) bytes b l e h =
+unsealed start [] [] b l e h = refl
+unsealed start [] (x ∷ bytes) b l e h = absurd (omega arith)
+unsealed start (p ∷ ps) bytes b l e h =
     let x = take 512 bytes in
     let after = drop 512 bytes in
-    let right = all-right (same (block b (take 504 x)) x) (wrongFrom (cut (length ps) 512 after) (suc b)) b (length ps) e in
+    let right = all-right (same (block (start b) (take 504 x)) x) (wrongFrom start (cut (length ps) 512 after) (suc b)) b (length ps) e in
     let payload : take 504 x ≡ padded p = take-take 504 512 bytes (omega arith) ∙ h 0 (omega arith) in
     sym (take-append-drop 512 bytes)
-    ∙ ap₂ _++_ (sym (same-eq (block b (take 504 x)) x (right .0)) ∙ ap (block b) payload)
-    (unsealed ps after (suc b) (omega (arith, length-drop 512 bytes)) (right .1)
+    ∙ ap₂ _++_ (sym (same-eq (block (start b) (take 504 x)) x (right .0)) ∙ ap (block (start b)) payload)
+    (unsealed start ps after (suc b) (omega (arith, length-drop 512 bytes)) (right .1)
     (λ j k. ap (take 504) (drop-drop (512 * j) 512 bytes ∙ ap (λ i. drop i bytes) (let q : 512 + 512 * j ≡ 512 * suc j = omega arith in q)) ∙ h (suc j) (omega arith)))
 
+-- ---- with the starts of an image
+
+-- sealed payloads always check
+pub sealed-checks : (ps : List (List ℕ)) → wrongBlock (sealed sumStart ps 0) ≡ length ps
+unfolding wrongBlock
+sealed-checks ps =
+    ap (λ k. wrongFrom sumStart (cut k 512 (sealed sumStart ps 0)) 0) (let e : blocksIn (sealed sumStart ps 0) ≡ length ps = omega (arith, length-sealed sumStart ps 0) in e)
+    ∙ sealed-right sumStart ps 0 ∙ omega arith
+
 pub is-sealed : (ps : List (List ℕ)) (bytes : List ℕ) → length bytes ≡ 512 * length ps → wrongBlock bytes ≡ length ps
-    → ((j : ℕ) → j < length ps → take 504 (drop (512 * j) bytes) ≡ padded (getD ps j [])) → bytes ≡ sealed ps 0
+    → ((j : ℕ) → j < length ps → take 504 (drop (512 * j) bytes) ≡ padded (getD ps j [])) → bytes ≡ sealed sumStart ps 0
 unfolding wrongBlock
 is-sealed ps bytes l e h =
-    unsealed ps bytes 0 l
-    (sym (ap (λ k. wrongFrom (cut k 512 bytes) 0) (let q : blocksIn bytes ≡ length ps = omega arith in q)) ∙ e ∙ omega arith) h
+    unsealed sumStart ps bytes 0 l
+    (sym (ap (λ k. wrongFrom sumStart (cut k 512 bytes) 0) (let q : blocksIn bytes ≡ length ps = omega arith in q)) ∙ e ∙ omega arith) h
 
 -- the same by words
 pub is-sealed-words : (ps : List (List ℕ)) (bytes : List ℕ) → AreBytes bytes → ((j : ℕ) → j < length ps → AreBytes (getD ps j []))
     → length bytes ≡ 512 * length ps → wrongBlock bytes ≡ length ps
-    → ((j w : ℕ) → j < length ps → w < 126 → wordAt bytes (512 * j + 4 * w) ≡ wordAt (getD ps j []) (4 * w)) → bytes ≡ sealed ps 0
+    → ((j w : ℕ) → j < length ps → w < 126 → wordAt bytes (512 * j + 4 * w) ≡ wordAt (getD ps j []) (4 * w)) → bytes ≡ sealed sumStart ps 0
 is-sealed-words ps bytes hb hp l e h = is-sealed ps bytes l e (λ j k.
     same-words 126 (take 504 (drop (512 * j) bytes)) (padded (getD ps j []))
     (take-bytes 504 (drop (512 * j) bytes) (drop-bytes (512 * j) bytes hb)) (padded-bytes (getD ps j []) (hp j k))

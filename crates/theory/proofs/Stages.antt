@@ -13,7 +13,7 @@ use Rattle.meaning.specs.Bytes.{bit, bitAt, bytesOf}
 use Rattle.meaning.specs.Blocks.{blocksIn, wrongBlock}
 use Rattle.meaning.specs.Image.{stringBlocks, samples, imageOfParts, image, stringIn, parentsIn, isImage}
 use Rattle.theory.specs.Layout.{Runs, AreBytes, wordAt, bitPlace, sampleIn, sampleWord, bitWord, stringWord, startR0, startS1, startS0, total, Laid}
-use Rattle.theory.specs.Stages.{nodesOf, marksOf, blocksOfSamples, zerosFrom, samplesFrom, blocksNeeded, readR1, readR0, Header, Ended, InStep, Kept, Sampled, Stages}
+use Rattle.theory.specs.Stages.{nodesOf, runsOf, blocksOfSamples, r0Block, r1Samples, blocksNeeded, readR1, readR0, Header, Ended, InStep, CountsAndPadding, Sampled, Stages}
 use Rattle.theory.proofs.Digits.{same-bits, bytesOf-lt, bytesOf-bit, bytesOf-word, length-bytesOf, take-bytes, drop-bytes, wordAt-take, wordAt-drop}
 use Rattle.theory.proofs.Forms.{length-parents, length-R1, length-R0, string-parents, tree-runs, tree-rule, runs-ones, marks-count}
 use Rattle.theory.proofs.Payloads.{ones-le, length-samples}
@@ -35,26 +35,26 @@ module _ (a b : List Bit) (longer : length b ≡ suc (length a)) (most : length 
 
   made-R0 : readR0 (imageOfParts a b) ≡ b
   made-R0 =
-      ap (λ n. stringIn (imageOfParts a b) (zerosFrom n) 0 (n + 1)) made-nodes
-      ∙ ap (stringIn (imageOfParts a b) (zerosFrom (length a)) 0) (let e : length a + 1 ≡ length b = omega arith in e) ∙ R0-in a b
+      ap (λ n. stringIn (imageOfParts a b) (r0Block n) 0 (n + 1)) made-nodes
+      ∙ ap (stringIn (imageOfParts a b) (r0Block (length a)) 0) (let e : length a + 1 ≡ length b = omega arith in e) ∙ R0-in a b
 
-  kept-R1 : Kept (imageOfParts a b) 1 a
+  kept-R1 : CountsAndPadding (imageOfParts a b) 1 a
   unfolding stringWord
   kept-R1 = record {
     counts = λ j h. ap (wordAt (imageOfParts a b)) (let e : 512 * (1 + j) ≡ 512 * (1 + j) + 4 * 0 = omega arith in e) ∙ made .inR1 j 0 (omega arith) (omega arith);
     unused = λ i h g. R1-bit a b i g ∙ List·getD-eq-default a O h;
   }
 
-  kept-R0 : Kept (imageOfParts a b) (zerosFrom (length a)) b
+  kept-R0 : CountsAndPadding (imageOfParts a b) (r0Block (length a)) b
   unfolding stringWord
   kept-R0 = record {
-    counts = λ j h. ap (wordAt (imageOfParts a b)) (let e : 512 * (zerosFrom (length a) + j) ≡ 512 * (startR0 a b + j) + 4 * 0 = omega arith in e)
+    counts = λ j h. ap (wordAt (imageOfParts a b)) (let e : 512 * (r0Block (length a) + j) ≡ 512 * (startR0 a b + j) + 4 * 0 = omega arith in e)
         ∙ made .inR0 j 0 (omega arith) (omega arith);
     unused = λ i h g. R0-bit a b i g ∙ List·getD-eq-default b O h;
   }
 
   module _ (m : ℕ) (ra : Runs m a) (rb : Runs m b) (some : 1 ≤ length a) where
-    made-marks : marksOf (imageOfParts a b) ≡ m
+    made-marks : runsOf (imageOfParts a b) ≡ m
     made-marks = made .head 2 (omega arith) ∙ runs-ones m a ra
 
     made-header : Header (imageOfParts a b)
@@ -67,22 +67,22 @@ module _ (a b : List Bit) (longer : length b ≡ suc (length a)) (most : length 
           version = made .head 0 (omega arith);
           some = omega arith;
           most = omega arith;
-          marksSome = omega (arith, one-missing a m 0 ra some);
-          marksMost = omega (arith, ones-le a, runs-ones m a ra);
+          runsSome = omega (arith, one-missing a m 0 ra some);
+          runsMost = omega (arith, ones-le a, runs-ones m a ra);
           blocks = made .head 3 (omega arith) ∙ sym c;
           needed = c ∙ t ∙ ap₂ blocksNeeded (sym n) (sym k);
           reserved = λ w h g. made .head w g ∙ List·getD-eq-default (1 ∷ length a ∷ ones a ∷ total a b ∷ []) 0 h;
         }
 
-    sampled-R1 : Sampled (imageOfParts a b) (samplesFrom (length a)) m a
+    sampled-R1 : Sampled (imageOfParts a b) (r1Samples (length a)) m a
     sampled-R1 j w h g =
-        ap (λ n. wordAt (imageOfParts a b) (512 * (n + j) + 4 * w)) (let e : samplesFrom (length a) ≡ startS1 a b = omega arith in e)
+        ap (λ n. wordAt (imageOfParts a b) (512 * (n + j) + 4 * w)) (let e : r1Samples (length a) ≡ startS1 a b = omega arith in e)
         ∙ made .inS1 j w (omega (arith, length-samples a, runs-ones m a ra)) g
 
-    sampled-R0 : Sampled (imageOfParts a b) (samplesFrom (length a) + blocksOfSamples m) m b
+    sampled-R0 : Sampled (imageOfParts a b) (r1Samples (length a) + blocksOfSamples m) m b
     sampled-R0 j w h g =
         ap (λ n. wordAt (imageOfParts a b) (512 * (n + j) + 4 * w))
-        (let e : samplesFrom (length a) + blocksOfSamples m ≡ startS0 a b = omega (arith, length-samples a, runs-ones m a ra) in e)
+        (let e : r1Samples (length a) + blocksOfSamples m ≡ startS0 a b = omega (arith, length-samples a, runs-ones m a ra) in e)
         ∙ made .inS0 j w (omega (arith, length-samples b, runs-ones m b rb)) g
 
     parts-stages : InStep a b → Stages (imageOfParts a b)
@@ -97,10 +97,10 @@ module _ (a b : List Bit) (longer : length b ≡ suc (length a)) (most : length 
           ended1 = subst₃ (λ n k r. Ended k r) n k p (runs-ended m a some .0 ra);
           ended0 = subst₃ (λ n k r. Ended k r) n k q (runs-ended m b (omega arith) .0 rb);
           inStep = subst₃ (λ n p q. InStep p q) n p q step;
-          kept1 = subst (Kept x 1) p kept-R1;
-          kept0 = subst₃ (λ n k r. Kept x (zerosFrom n) r) n k q kept-R0;
-          sampled1 = subst₃ (λ n k r. Sampled x (samplesFrom n) k r) n k p sampled-R1;
-          sampled0 = subst₃ (λ n k r. Sampled x (samplesFrom n + blocksOfSamples k) k r) n k q sampled-R0;
+          kept1 = subst (CountsAndPadding x 1) p kept-R1;
+          kept0 = subst₃ (λ n k r. CountsAndPadding x (r0Block n) r) n k q kept-R0;
+          sampled1 = subst₃ (λ n k r. Sampled x (r1Samples n) k r) n k p sampled-R1;
+          sampled0 = subst₃ (λ n k r. Sampled x (r1Samples n + blocksOfSamples k) k r) n k q sampled-R0;
         }
 
 module _ (t : Tree) (small : nodes t ≤ 65535) where
@@ -140,7 +140,7 @@ slice-bit bytes o p h =
     (let e : o + p / 8 ≡ (8 * o + p) / 8 = omega arith in e) (let e : p % 8 ≡ (8 * o + p) % 8 = omega arith in e)
 
 -- the words of n bits that stand from block `from` on, with zeros after them
-module _ (bytes : List ℕ) (are : AreBytes bytes) (from n : ℕ) (fits : 512 * (from + stringBlocks n) ≤ length bytes) (k : Kept bytes from (stringIn bytes from 0 n)) where
+module _ (bytes : List ℕ) (are : AreBytes bytes) (from n : ℕ) (fits : 512 * (from + stringBlocks n) ≤ length bytes) (k : CountsAndPadding bytes from (stringIn bytes from 0 n)) where
   bit-is : (i : ℕ) → i < 4000 * stringBlocks n → bitAt bytes (bitPlace from i) ≡ getD (stringIn bytes from 0 n) i O
   bit-is i h =
       let l = length-stringIn bytes from 0 n in
@@ -178,7 +178,7 @@ module _ (bytes : List ℕ) (are : AreBytes bytes) (whole : length bytes ≡ 512
   long1 = length-stringIn bytes 1 0 (nodesOf bytes)
 
   long0 : length (readR0 bytes) ≡ nodesOf bytes + 1
-  long0 = length-stringIn bytes (zerosFrom (nodesOf bytes)) 0 (nodesOf bytes + 1)
+  long0 = length-stringIn bytes (r0Block (nodesOf bytes)) 0 (nodesOf bytes + 1)
 
   total-is : total (readR1 bytes) (readR0 bytes) ≡ blocksIn bytes
   total-is =
@@ -208,10 +208,10 @@ module _ (bytes : List ℕ) (are : AreBytes bytes) (whole : length bytes ≡ 512
         sums = sums ∙ sym t;
         head = head-is;
         inR1 = λ j w h g. word-is bytes are 1 n (omega arith) (s .kept1) j w (omega arith) g;
-        inR0 = λ j w h g. ap (λ o. wordAt bytes (512 * (o + j) + 4 * w)) (let e : startR0 a b ≡ zerosFrom n = omega arith in e)
-            ∙ word-is bytes are (zerosFrom n) (n + 1) (omega arith) (s .kept0) j w (omega arith) g;
-        inS1 = λ j w h g. ap (λ o. wordAt bytes (512 * (o + j) + 4 * w)) (let e : startS1 a b ≡ samplesFrom n = omega arith in e) ∙ s .sampled1 j w (omega arith) g;
-        inS0 = λ j w h g. ap (λ o. wordAt bytes (512 * (o + j) + 4 * w)) (let e : startS0 a b ≡ samplesFrom n + blocksOfSamples (marksOf bytes) = omega arith in e)
+        inR0 = λ j w h g. ap (λ o. wordAt bytes (512 * (o + j) + 4 * w)) (let e : startR0 a b ≡ r0Block n = omega arith in e)
+            ∙ word-is bytes are (r0Block n) (n + 1) (omega arith) (s .kept0) j w (omega arith) g;
+        inS1 = λ j w h g. ap (λ o. wordAt bytes (512 * (o + j) + 4 * w)) (let e : startS1 a b ≡ r1Samples n = omega arith in e) ∙ s .sampled1 j w (omega arith) g;
+        inS0 = λ j w h g. ap (λ o. wordAt bytes (512 * (o + j) + 4 * w)) (let e : startS0 a b ≡ r1Samples n + blocksOfSamples (runsOf bytes) = omega arith in e)
             ∙ s .sampled0 j w (omega arith) g;
       }
 
@@ -219,7 +219,7 @@ pub stages-image : (bytes : List ℕ) → AreBytes bytes → length bytes ≡ 51
 stages-image bytes are whole sums s =
     let a = readR1 bytes in
     let b = readR0 bytes in
-    let m = marksOf bytes in
+    let m = runsOf bytes in
     let la = long1 bytes are whole sums s in
     let lb = long0 bytes are whole sums s in
     let some = s .header .some in
@@ -234,12 +234,12 @@ stages-image bytes are whole sums s =
 pub parents-read : (bytes : List ℕ) → 504 ≤ length bytes → parentsOf (woven (readR1 bytes) (readR0 bytes)) ≡ parentsIn bytes
 unfolding parentsIn
 parents-read bytes h =
-    ap (λ n. parentsOf (woven (stringIn bytes 1 0 n) (stringIn bytes (zerosFrom n) 0 (n + 1)))) (sym (header-at bytes 1 h (omega arith)))
+    ap (λ n. parentsOf (woven (stringIn bytes 1 0 n) (stringIn bytes (r0Block n) 0 (n + 1)))) (sym (header-at bytes 1 h (omega arith)))
 
 pub record PartsRead (bytes : List ℕ) : Type 0 where
   pub given : parentsOf (woven (readR1 bytes) (readR0 bytes)) ≡ parentsIn bytes
   pub count : length (parentsIn bytes) ≡ nodesOf bytes
-  pub marks : ones (R1 (stringOf (parentsIn bytes))) ≡ marksOf bytes
+  pub marks : ones (R1 (stringOf (parentsIn bytes))) ≡ runsOf bytes
   pub first : R1 (stringOf (parentsIn bytes)) ≡ readR1 bytes
   pub second : R0 (stringOf (parentsIn bytes)) ≡ readR0 bytes
 

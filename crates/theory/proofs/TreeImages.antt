@@ -13,7 +13,7 @@ use Rattle.meaning.specs.Trees.{Tree, nodes}
 use Rattle.meaning.specs.Strings.{Bit, O, ones, lbs, R1, R0, parentsOf, stringOf, woven}
 use Rattle.meaning.specs.Parents.{parents, IsParents, badEntry}
 use Rattle.meaning.specs.Bytes.{bit, bitAt, bytesOf}
-use Rattle.meaning.specs.Blocks.{le32, sealed, same, blocksIn, wrongBlock}
+use Rattle.meaning.specs.Blocks.{le32, sumStart, sealed, same, blocksIn, wrongBlock}
 use Rattle.meaning.specs.Image.{stringBlocks, imageOfParts, imageOfString, image, headerWord, stringIn, parentsIn, isTree, isImage}
 use Rattle.theory.specs.Layout.{Runs, AreBytes, wordAt, startR0, total, Laid}
 pub use Rattle.theory.specs.Layout.{bitPlace}
@@ -48,7 +48,7 @@ stringIn-at bytes b i (suc n) (suc k) h =
 -- bit i of a string whose blocks begin at block o, and zeros after the last bit
 module _ (ps : List (List ℕ)) (o : ℕ) (r : List Bit)
     (there : (j : ℕ) → j < stringBlocks (length r) → (o + j < length ps) × (getD ps (o + j) [] ≡ stringPart r j)) where
-  string-bit : (i : ℕ) → i < 4000 * stringBlocks (length r) → bitAt (sealed ps 0) (bitPlace o i) ≡ getD r i O
+  string-bit : (i : ℕ) → i < 4000 * stringBlocks (length r) → bitAt (sealed sumStart ps 0) (bitPlace o i) ≡ getD r i O
   unfolding bitAt
   string-bit i h =
       let j = i / 4000 in
@@ -56,12 +56,12 @@ module _ (ps : List (List ℕ)) (o : ℕ) (r : List Bit)
       let c = ones (take (4000 * j) r) in
       let y = take 4000 (drop (4000 * j) r) in
       let w = there j (omega arith) in
-      let at : getD (sealed ps 0) (512 * (o + j) + (4 + q)) 0 ≡ getD (bytesOf 500 y) q 0 =
-      sealed-at ps 0 (o + j) (4 + q) (w .0) (omega arith)
+      let at : getD (sealed sumStart ps 0) (512 * (o + j) + (4 + q)) 0 ≡ getD (bytesOf 500 y) q 0 =
+      sealed-at sumStart ps 0 (o + j) (4 + q) (w .0) (omega arith)
       ∙ padded-at (getD ps (o + j) []) (4 + q) (omega arith)
       ∙ ap (λ z. getD z (4 + q) 0) (w .1)
       ∙ getD-append-add (le32 c) (bytesOf 500 y) q 0 in
-      ap₂ (λ a e. bit (getD (sealed ps 0) a 0 / 2 ^ (7 - e) % 2))
+      ap₂ (λ a e. bit (getD (sealed sumStart ps 0) a 0 / 2 ^ (7 - e) % 2))
       (let e : bitPlace o i / 8 ≡ 512 * (o + j) + (4 + q) = omega arith in e)
       (let e : bitPlace o i % 8 ≡ i % 4000 % 8 = omega arith in e)
       ∙ ap (λ z. bit (z / 2 ^ (7 - i % 4000 % 8) % 2)) at
@@ -70,12 +70,12 @@ module _ (ps : List (List ℕ)) (o : ℕ) (r : List Bit)
       ∙ getD-drop (4000 * j) r (i % 4000) O
       ∙ ap (λ k. getD r k O) (let e : 4000 * j + i % 4000 ≡ i = omega arith in e)
 
-  string-in : stringIn (sealed ps 0) o 0 (length r) ≡ r
+  string-in : stringIn (sealed sumStart ps 0) o 0 (length r) ≡ r
   string-in =
-      let l = length-stringIn (sealed ps 0) o 0 (length r) in
-      ext-getD O (stringIn (sealed ps 0) o 0 (length r)) r l
-      (λ i h. stringIn-at (sealed ps 0) o 0 (length r) i (omega arith)
-      ∙ ap (λ q. bitAt (sealed ps 0) (bitPlace o q)) (let e : 0 + i ≡ i = omega arith in e)
+      let l = length-stringIn (sealed sumStart ps 0) o 0 (length r) in
+      ext-getD O (stringIn (sealed sumStart ps 0) o 0 (length r)) r l
+      (λ i h. stringIn-at (sealed sumStart ps 0) o 0 (length r) i (omega arith)
+      ∙ ap (λ q. bitAt (sealed sumStart ps 0) (bitPlace o q)) (let e : 0 + i ≡ i = omega arith in e)
       ∙ string-bit i (omega arith))
 
 -- both strings are in the image

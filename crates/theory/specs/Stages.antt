@@ -13,39 +13,39 @@ use Rattle.theory.specs.Layout.{wordAt, bitPlace, sampleWord}
 abbrev pub nodesOf : List ℕ → ℕ
 nodesOf bytes = wordAt bytes 4
 
-abbrev pub marksOf : List ℕ → ℕ
-marksOf bytes = wordAt bytes 8
+abbrev pub runsOf : List ℕ → ℕ
+runsOf bytes = wordAt bytes 8
 
 -- the blocks that the samples of m ones take
 abbrev pub blocksOfSamples : ℕ → ℕ
 blocksOfSamples m = ((m + 63) / 64 + 125) / 126
 
 -- where the blocks of R0 and of the samples begin, for n nodes and m marks, and how many blocks there are
-abbrev pub zerosFrom : ℕ → ℕ
-zerosFrom n = 1 + stringBlocks n
+abbrev pub r0Block : ℕ → ℕ
+r0Block n = 1 + stringBlocks n
 
-abbrev pub samplesFrom : ℕ → ℕ
-samplesFrom n = zerosFrom n + stringBlocks (n + 1)
+abbrev pub r1Samples : ℕ → ℕ
+r1Samples n = r0Block n + stringBlocks (n + 1)
 
 abbrev pub blocksNeeded : ℕ → ℕ → ℕ
-blocksNeeded n m = samplesFrom n + (blocksOfSamples m + blocksOfSamples m)
+blocksNeeded n m = r1Samples n + (blocksOfSamples m + blocksOfSamples m)
 
 -- the two strings, as the blocks have them
 abbrev pub readR1 : List ℕ → List Bit
 readR1 bytes = stringIn bytes 1 0 (nodesOf bytes)
 
 abbrev pub readR0 : List ℕ → List Bit
-readR0 bytes = stringIn bytes (zerosFrom (nodesOf bytes)) 0 (nodesOf bytes + 1)
+readR0 bytes = stringIn bytes (r0Block (nodesOf bytes)) 0 (nodesOf bytes + 1)
 
 -- the header: version, n, m and the number of blocks, taken together, and the reserved words
 pub record Header (bytes : List ℕ) : Type 0 where
   pub version : wordAt bytes 0 ≡ 1
   pub some : 1 ≤ nodesOf bytes
   pub most : nodesOf bytes ≤ 65535
-  pub marksSome : 1 ≤ marksOf bytes
-  pub marksMost : marksOf bytes ≤ nodesOf bytes
+  pub runsSome : 1 ≤ runsOf bytes
+  pub runsMost : runsOf bytes ≤ nodesOf bytes
   pub blocks : wordAt bytes 12 ≡ blocksIn bytes
-  pub needed : blocksIn bytes ≡ blocksNeeded (nodesOf bytes) (marksOf bytes)
+  pub needed : blocksIn bytes ≡ blocksNeeded (nodesOf bytes) (runsOf bytes)
   pub reserved : (w : ℕ) → 4 ≤ w → w < 126 → wordAt bytes (4 * w) ≡ 0
 
 -- a string of m runs: m ones, the last bit among them
@@ -59,7 +59,7 @@ pub record InStep (a b : List Bit) : Type 0 where
   pub never : (p : ℕ) → p < length a → ones (take p a) ≤ ones (take p b)
 
 -- the blocks of a string r, from block `from` on: the count of earlier ones, and zeros after the last bit
-pub record Kept (bytes : List ℕ) (from : ℕ) (r : List Bit) : Type 0 where
+pub record CountsAndPadding (bytes : List ℕ) (from : ℕ) (r : List Bit) : Type 0 where
   pub counts : (j : ℕ) → j < stringBlocks (length r) → wordAt bytes (512 * (from + j)) ≡ ones (take (4000 * j) r)
   pub unused : (i : ℕ) → length r ≤ i → i < 4000 * stringBlocks (length r) → bitAt bytes (bitPlace from i) ≡ O
 
@@ -70,10 +70,10 @@ Sampled bytes from m r = (j w : ℕ) → j < blocksOfSamples m → w < 126 → w
 -- all stages pass
 pub record Stages (bytes : List ℕ) : Type 0 where
   pub header : Header bytes
-  pub ended1 : Ended (marksOf bytes) (readR1 bytes)
-  pub ended0 : Ended (marksOf bytes) (readR0 bytes)
+  pub ended1 : Ended (runsOf bytes) (readR1 bytes)
+  pub ended0 : Ended (runsOf bytes) (readR0 bytes)
   pub inStep : InStep (readR1 bytes) (readR0 bytes)
-  pub kept1 : Kept bytes 1 (readR1 bytes)
-  pub kept0 : Kept bytes (zerosFrom (nodesOf bytes)) (readR0 bytes)
-  pub sampled1 : Sampled bytes (samplesFrom (nodesOf bytes)) (marksOf bytes) (readR1 bytes)
-  pub sampled0 : Sampled bytes (samplesFrom (nodesOf bytes) + blocksOfSamples (marksOf bytes)) (marksOf bytes) (readR0 bytes)
+  pub kept1 : CountsAndPadding bytes 1 (readR1 bytes)
+  pub kept0 : CountsAndPadding bytes (r0Block (nodesOf bytes)) (readR0 bytes)
+  pub sampled1 : Sampled bytes (r1Samples (nodesOf bytes)) (runsOf bytes) (readR1 bytes)
+  pub sampled0 : Sampled bytes (r1Samples (nodesOf bytes) + blocksOfSamples (runsOf bytes)) (runsOf bytes) (readR0 bytes)

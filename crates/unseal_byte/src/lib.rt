@@ -5,11 +5,11 @@ ghost use lib.ListN.{length};
 ghost use Rattle.meaning.specs.Bytes.{bitsFrom};
 ghost use Rattle.meaning.specs.Strings.{ones};
 ghost use Rattle.unseal_byte.specs.Placed.{Placed};
-use bit::bit_of;
+use bits_byte::bit_of;
 
 // Of the first n bits of a byte, which i bits come before, writes the position of each one, the last of them before entry k of `out`, and
 // answers the entry of the first. A zero writes too, and what comes next writes over it, so that nothing branches on a bit.
-pub fn place_byte(x: u8, n: usize, i: usize, k: usize, out: &mut [u32]) -> usize
+pub fn write_byte_positions(x: u8, n: usize, i: usize, k: usize, out: &mut [u32]) -> usize
     requires { ⌜ n ≤ 8 ⌝ }
     requires { ⌜ i + n ≤ 65535 ⌝ }
     requires { ⌜ ones (bitsFrom (x ∷ []) 0 n) < k ⌝ }

@@ -7,10 +7,10 @@ ghost use Rattle.meaning.specs.Answers.{written};
 ghost use Rattle.meaning.specs.Bytes.{bitsFrom};
 ghost use Rattle.meaning.specs.Image.{stringIn};
 ghost use Rattle.meaning.specs.Strings.{ones, parentsOf, woven};
-ghost use Rattle.theory.specs.Stages.{samplesFrom, zerosFrom};
+ghost use Rattle.theory.specs.Stages.{r1Samples, r0Block};
 ghost use Rattle.unseal_parents.specs.Spread.{InRuns, SpreadOut, spread};
-use bit::bit_of;
-use unseal_r0::place_string;
+use bits_byte::bit_of;
+use unseal_r0::write_string_positions;
 
 // For each of the first n bits of a byte, from entry i on, writes the number at entry p; a one moves p on. Answers where p comes to. It never falls behind what is written.
 fn spread_byte(x: u8, n: usize, i: usize, p: usize, out: &mut [u32]) -> usize
@@ -67,13 +67,13 @@ fn spread_string(b: &[u8], n: usize, p: usize, out: &mut [u32])
 // a 0 for the root's parent, and are spread from there over the list. The last node's parent then stands there already.
 pub fn write_parents(b: &[u8], zeros: usize, n: usize, out: &mut [u32])
     requires { ⌜ n ≤ 65535 ⌝ }
-    requires { ⌜ zeros ≡ zerosFrom n ⌝ }
-    requires { ⌜ 512 * samplesFrom n ≤ length (now b) ⌝ }
+    requires { ⌜ zeros ≡ r0Block n ⌝ }
+    requires { ⌜ 512 * r1Samples n ≤ length (now b) ⌝ }
     requires { ⌜ InRuns (stringIn (now b) 1 0 n) (stringIn (now b) zeros 0 (n + 1)) ⌝ }
     requires { ⌜ n ≤ length (now out) ⌝ }
     ensures { λ _. ⌜ now (out .exit) ≡ written (parentsOf (woven (stringIn (now (b .entry)) 1 0 n) (stringIn (now (b .entry)) zeros 0 (n + 1)))) (now (out .entry)) ⌝ }
 {
-    let root = place_string(b, zeros, n, out) - 1;
+    let root = write_string_positions(b, zeros, n, out) - 1;
     out[root] = 0;
     spread_string(b, n - 1, root, out);
 }

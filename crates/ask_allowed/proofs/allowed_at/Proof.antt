@@ -45,11 +45,11 @@ add-signed-at-2 c = search needs
 signed-at-requires-3 : tie.Need-signed-at-requires-3
 signed-at-requires-3 c κs = search needs
 
-takes-requires : tie.Need-takes-requires
-takes-requires c κs = search needs
+argument-allowed-requires : tie.Need-argument-allowed-requires
+argument-allowed-requires c κs = search needs
 
 returns-3 : tie.Need-returns-3
-returns-3 c = let e = c .before .before .before .before .before .before .number .ensures ∙ ap numberOf (c .before .before .before .before .before .before .before .signed-at .ensures) in c .takes .ensures ∙ ap₂ (λ k z. allowedKind (kindOf (pos k)) z) (c .before .before .number2 .ensures ∙ ap numberOf (c .before .before .before .signed-at2 .ensures)) (c .before .signed-at3 .ensures) ∙ sym (node-right _ (questionAt (c .before .before .before .before .before .before .before .before .args .asked .now) (c .before .before .before .before .before .before .before .before .args .i)) (omega (arith, e)) (omega (arith, e)))
+returns-3 c = let e = c .before .before .before .before .before .before .number .ensures ∙ ap numberOf (c .before .before .before .before .before .before .before .signed-at .ensures) in c .argument-allowed .ensures ∙ ap₂ (λ k z. allowedKind (kindOf (pos k)) z) (c .before .before .number2 .ensures ∙ ap numberOf (c .before .before .before .signed-at2 .ensures)) (c .before .signed-at3 .ensures) ∙ sym (node-right _ (questionAt (c .before .before .before .before .before .before .before .before .args .asked .now) (c .before .before .before .before .before .before .before .before .args .i)) (omega (arith, e)) (omega (arith, e)))
 
 pub allowed-at-spec : {M : Type 1} → statement M
 allowed-at-spec =
@@ -67,5 +67,5 @@ allowed-at-spec =
     mul-signed-at-3
     add-signed-at-2
     signed-at-requires-3
-    takes-requires
+    argument-allowed-requires
     returns-3)

@@ -30,8 +30,8 @@ signed-at-requires-2 c κs = search needs
 number-requires-2 : tie.Need-number-requires-2
 number-requires-2 c κs = search needs
 
-cast-reply : tie.Need-cast-reply
-cast-reply c = search needs
+cast-answer-kind : tie.Need-cast-answer-kind
+cast-answer-kind c = search needs
 
 mul-signed-at-3 : tie.Need-mul-signed-at-3
 mul-signed-at-3 c = search needs
@@ -42,11 +42,11 @@ add-signed-at-2 c = search needs
 signed-at-requires-3 : tie.Need-signed-at-requires-3
 signed-at-requires-3 c κs = search needs
 
-reply-requires : tie.Need-reply-requires
-reply-requires c κs = let f = fine _ (questionAt (c .before .before .before .before .before .before .args .asked .now) (c .before .before .before .before .before .before .args .i)) (c .before .before .before .before .before .before .pre .1 .1) in let k = c .before .before .before .number .ensures ∙ ap numberOf (c .before .before .before .before .signed-at .ensures) in let x = c .before .number2 .ensures ∙ ap numberOf (c .before .before .signed-at2 .ensures) in (c .before .before .before .before .before .before .pre .0, (omega (arith, f .least, k), (omega (arith, f .most, k), (omega (arith, f .some, x), omega (arith, f .within, x)))))
+answer-kind-requires : tie.Need-answer-kind-requires
+answer-kind-requires c κs = let f = fine _ (questionAt (c .before .before .before .before .before .before .args .asked .now) (c .before .before .before .before .before .before .args .i)) (c .before .before .before .before .before .before .pre .1 .1) in let k = c .before .before .before .number .ensures ∙ ap numberOf (c .before .before .before .before .signed-at .ensures) in let x = c .before .number2 .ensures ∙ ap numberOf (c .before .before .signed-at2 .ensures) in (c .before .before .before .before .before .before .pre .0, (omega (arith, f .least, k), (omega (arith, f .most, k), (omega (arith, f .some, x), omega (arith, f .within, x)))))
 
 returns : tie.Need-returns
-returns c = c .reply .ensures ∙ answer-is _ (questionAt (c .before .before .before .before .before .before .before .args .asked .now) (c .before .before .before .before .before .before .before .args .i)) _ _ _ (c .before .before .before .before .number .ensures ∙ ap numberOf (c .before .before .before .before .before .signed-at .ensures)) (c .before .before .number2 .ensures ∙ ap numberOf (c .before .before .before .signed-at2 .ensures)) (c .before .signed-at3 .ensures)
+returns c = c .answer-kind .ensures ∙ answer-is _ (questionAt (c .before .before .before .before .before .before .before .args .asked .now) (c .before .before .before .before .before .before .before .args .i)) _ _ _ (c .before .before .before .before .number .ensures ∙ ap numberOf (c .before .before .before .before .before .signed-at .ensures)) (c .before .before .number2 .ensures ∙ ap numberOf (c .before .before .before .signed-at2 .ensures)) (c .before .signed-at3 .ensures)
 
 pub answer-at-spec : {M : Type 1} → statement M
 answer-at-spec =
@@ -59,9 +59,9 @@ answer-at-spec =
     add-signed-at
     signed-at-requires-2
     number-requires-2
-    cast-reply
+    cast-answer-kind
     mul-signed-at-3
     add-signed-at-2
     signed-at-requires-3
-    reply-requires
+    answer-kind-requires
     returns)

@@ -40,20 +40,20 @@ ones-in-byte-requires c κs = omega arith
 sub-need : tie.Need-sub-need
 sub-need c = omega arith
 
-place-in-byte-requires : tie.Need-place-in-byte-requires
-place-in-byte-requires c κs = let j = joined c in (j .0, j .1)
+select-in-byte-requires : tie.Need-select-in-byte-requires
+select-in-byte-requires c κs = let j = joined c in (j .0, j .1)
 
 add-result : tie.Need-add-result
 add-result c =
     let j = joined (c .before .before) in
     let p = c .before .before .if1 in
-    omega (arith, c .before .place-in-byte .ensures, byte-place-le (p .half) (p .need))
+    omega (arith, c .before .select-in-byte .ensures, byte-place-le (p .half) (p .need))
 
 returns : tie.Need-returns
 returns c =
     let j = joined (c .before .before) in
-    ap (λ n. c .before .before .if1 .passed + n) (c .before .place-in-byte .ensures) ∙ j .3
+    ap (λ n. c .before .before .if1 .passed + n) (c .before .select-in-byte .ensures) ∙ j .3
 
 pub place-by-half-spec : {M : Type 1} → statement M
 place-by-half-spec =
-    tie.close (tie.spec ones-in-byte-requires sub-need place-in-byte-requires add-result returns)
+    tie.close (tie.spec ones-in-byte-requires sub-need select-in-byte-requires add-result returns)

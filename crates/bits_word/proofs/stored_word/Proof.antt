@@ -6,111 +6,111 @@ use Rattle.bits_word.proofs.EightBytes.{glued}
 use Rattle.bits_word.proofs.stored_word.Statement.{statement}
 use Rattle.bits_word.proofs.stored_word.Tie as tie
 
-shared-slice-read-wide : tie.Need-shared-slice-read-wide
-shared-slice-read-wide c = search needs
+shared-slice-read-byte-to-u64 : tie.Need-shared-slice-read-byte-to-u64
+shared-slice-read-byte-to-u64 c = search needs
 
-wide-requires : tie.Need-wide-requires
-wide-requires c κs = search needs
+byte-to-u64-requires : tie.Need-byte-to-u64-requires
+byte-to-u64-requires c κs = search needs
 
-add-wide : tie.Need-add-wide
-add-wide c = search needs
+add-byte-to-u64 : tie.Need-add-byte-to-u64
+add-byte-to-u64 c = search needs
 
-shared-slice-read-wide-2 : tie.Need-shared-slice-read-wide-2
-shared-slice-read-wide-2 c = search needs
+shared-slice-read-byte-to-u64-2 : tie.Need-shared-slice-read-byte-to-u64-2
+shared-slice-read-byte-to-u64-2 c = search needs
 
-wide-requires-2 : tie.Need-wide-requires-2
-wide-requires-2 c κs = search needs
+byte-to-u64-requires-2 : tie.Need-byte-to-u64-requires-2
+byte-to-u64-requires-2 c κs = search needs
 
-add-wide-2 : tie.Need-add-wide-2
-add-wide-2 c = search needs
+add-byte-to-u64-2 : tie.Need-add-byte-to-u64-2
+add-byte-to-u64-2 c = search needs
 
-shared-slice-read-wide-3 : tie.Need-shared-slice-read-wide-3
-shared-slice-read-wide-3 c = search needs
+shared-slice-read-byte-to-u64-3 : tie.Need-shared-slice-read-byte-to-u64-3
+shared-slice-read-byte-to-u64-3 c = search needs
 
-wide-requires-3 : tie.Need-wide-requires-3
-wide-requires-3 c κs = search needs
+byte-to-u64-requires-3 : tie.Need-byte-to-u64-requires-3
+byte-to-u64-requires-3 c κs = search needs
 
-add-wide-3 : tie.Need-add-wide-3
-add-wide-3 c = search needs
+add-byte-to-u64-3 : tie.Need-add-byte-to-u64-3
+add-byte-to-u64-3 c = search needs
 
-shared-slice-read-wide-4 : tie.Need-shared-slice-read-wide-4
-shared-slice-read-wide-4 c = search needs
+shared-slice-read-byte-to-u64-4 : tie.Need-shared-slice-read-byte-to-u64-4
+shared-slice-read-byte-to-u64-4 c = search needs
 
-wide-requires-4 : tie.Need-wide-requires-4
-wide-requires-4 c κs = search needs
+byte-to-u64-requires-4 : tie.Need-byte-to-u64-requires-4
+byte-to-u64-requires-4 c κs = search needs
 
-add-wide-4 : tie.Need-add-wide-4
-add-wide-4 c = search needs
+add-byte-to-u64-4 : tie.Need-add-byte-to-u64-4
+add-byte-to-u64-4 c = search needs
 
-shared-slice-read-wide-5 : tie.Need-shared-slice-read-wide-5
-shared-slice-read-wide-5 c = search needs
+shared-slice-read-byte-to-u64-5 : tie.Need-shared-slice-read-byte-to-u64-5
+shared-slice-read-byte-to-u64-5 c = search needs
 
-wide-requires-5 : tie.Need-wide-requires-5
-wide-requires-5 c κs = search needs
+byte-to-u64-requires-5 : tie.Need-byte-to-u64-requires-5
+byte-to-u64-requires-5 c κs = search needs
 
-add-wide-5 : tie.Need-add-wide-5
-add-wide-5 c = search needs
+add-byte-to-u64-5 : tie.Need-add-byte-to-u64-5
+add-byte-to-u64-5 c = search needs
 
-shared-slice-read-wide-6 : tie.Need-shared-slice-read-wide-6
-shared-slice-read-wide-6 c = search needs
+shared-slice-read-byte-to-u64-6 : tie.Need-shared-slice-read-byte-to-u64-6
+shared-slice-read-byte-to-u64-6 c = search needs
 
-wide-requires-6 : tie.Need-wide-requires-6
-wide-requires-6 c κs = search needs
+byte-to-u64-requires-6 : tie.Need-byte-to-u64-requires-6
+byte-to-u64-requires-6 c κs = search needs
 
-add-wide-6 : tie.Need-add-wide-6
-add-wide-6 c = search needs
+add-byte-to-u64-6 : tie.Need-add-byte-to-u64-6
+add-byte-to-u64-6 c = search needs
 
-shared-slice-read-wide-7 : tie.Need-shared-slice-read-wide-7
-shared-slice-read-wide-7 c = search needs
+shared-slice-read-byte-to-u64-7 : tie.Need-shared-slice-read-byte-to-u64-7
+shared-slice-read-byte-to-u64-7 c = search needs
 
-wide-requires-7 : tie.Need-wide-requires-7
-wide-requires-7 c κs = search needs
+byte-to-u64-requires-7 : tie.Need-byte-to-u64-requires-7
+byte-to-u64-requires-7 c κs = search needs
 
-add-wide-7 : tie.Need-add-wide-7
-add-wide-7 c = search needs
+add-byte-to-u64-7 : tie.Need-add-byte-to-u64-7
+add-byte-to-u64-7 c = search needs
 
-shared-slice-read-wide-8 : tie.Need-shared-slice-read-wide-8
-shared-slice-read-wide-8 c = search needs
+shared-slice-read-byte-to-u64-8 : tie.Need-shared-slice-read-byte-to-u64-8
+shared-slice-read-byte-to-u64-8 c = search needs
 
-wide-requires-8 : tie.Need-wide-requires-8
-wide-requires-8 c κs = search needs
+byte-to-u64-requires-8 : tie.Need-byte-to-u64-requires-8
+byte-to-u64-requires-8 c κs = search needs
 
 returns : tie.Need-returns
 returns c =
     let a = c .before .before .before .before .before .before .before .before .before .before .before .before .before .before .before .before .before .args in
     let bytes : AreBytes (a .b .now) = λ i l. omega (arith, c .before .before .before .before .before .before .before .before .before .before .before .before .before .before .before .before .shared-slice-known .given i) in
     glued (a .b .now) (a .at)
-    (c .before .before .before .before .before .before .before .before .before .before .before .before .before .before .wide .result) (c .before .before .before .before .before .before .before .before .before .before .before .before .wide2 .result) (c .before .before .before .before .before .before .before .before .before .before .wide3 .result) (c .before .before .before .before .before .before .before .before .wide4 .result) (c .before .before .before .before .before .before .wide5 .result) (c .before .before .before .before .wide6 .result) (c .before .before .wide7 .result) (c .wide8 .result)
+    (c .before .before .before .before .before .before .before .before .before .before .before .before .before .before .byte-to-u64 .result) (c .before .before .before .before .before .before .before .before .before .before .before .before .byte-to-u642 .result) (c .before .before .before .before .before .before .before .before .before .before .byte-to-u643 .result) (c .before .before .before .before .before .before .before .before .byte-to-u644 .result) (c .before .before .before .before .before .before .byte-to-u645 .result) (c .before .before .before .before .byte-to-u646 .result) (c .before .before .byte-to-u647 .result) (c .byte-to-u648 .result)
     bytes
-    (c .before .before .before .before .before .before .before .before .before .before .before .before .before .before .wide .ensures .0) (c .before .before .before .before .before .before .before .before .before .before .before .before .wide2 .ensures .0)
-    (c .before .before .before .before .before .before .before .before .before .before .wide3 .ensures .0) (c .before .before .before .before .before .before .before .before .wide4 .ensures .0)
-    (c .before .before .before .before .before .before .wide5 .ensures .0) (c .before .before .before .before .wide6 .ensures .0) (c .before .before .wide7 .ensures .0) (c .wide8 .ensures .0)
+    (c .before .before .before .before .before .before .before .before .before .before .before .before .before .before .byte-to-u64 .ensures .0) (c .before .before .before .before .before .before .before .before .before .before .before .before .byte-to-u642 .ensures .0)
+    (c .before .before .before .before .before .before .before .before .before .before .byte-to-u643 .ensures .0) (c .before .before .before .before .before .before .before .before .byte-to-u644 .ensures .0)
+    (c .before .before .before .before .before .before .byte-to-u645 .ensures .0) (c .before .before .before .before .byte-to-u646 .ensures .0) (c .before .before .byte-to-u647 .ensures .0) (c .byte-to-u648 .ensures .0)
 
 pub stored-word-spec : {M : Type 1} → statement M
 stored-word-spec =
     tie.close
     (tie.spec
-    shared-slice-read-wide
-    wide-requires
-    add-wide
-    shared-slice-read-wide-2
-    wide-requires-2
-    add-wide-2
-    shared-slice-read-wide-3
-    wide-requires-3
-    add-wide-3
-    shared-slice-read-wide-4
-    wide-requires-4
-    add-wide-4
-    shared-slice-read-wide-5
-    wide-requires-5
-    add-wide-5
-    shared-slice-read-wide-6
-    wide-requires-6
-    add-wide-6
-    shared-slice-read-wide-7
-    wide-requires-7
-    add-wide-7
-    shared-slice-read-wide-8
-    wide-requires-8
+    shared-slice-read-byte-to-u64
+    byte-to-u64-requires
+    add-byte-to-u64
+    shared-slice-read-byte-to-u64-2
+    byte-to-u64-requires-2
+    add-byte-to-u64-2
+    shared-slice-read-byte-to-u64-3
+    byte-to-u64-requires-3
+    add-byte-to-u64-3
+    shared-slice-read-byte-to-u64-4
+    byte-to-u64-requires-4
+    add-byte-to-u64-4
+    shared-slice-read-byte-to-u64-5
+    byte-to-u64-requires-5
+    add-byte-to-u64-5
+    shared-slice-read-byte-to-u64-6
+    byte-to-u64-requires-6
+    add-byte-to-u64-6
+    shared-slice-read-byte-to-u64-7
+    byte-to-u64-requires-7
+    add-byte-to-u64-7
+    shared-slice-read-byte-to-u64-8
+    byte-to-u64-requires-8
     returns)

@@ -1,6 +1,6 @@
 -- `by_bit::is_leaf` meets its contract.
 use Rattle.by_bit.proofs.Bits.{leaf-given}
-use Rattle.bit.proofs.Values.{value-le}
+use Rattle.bits_byte.proofs.Values.{value-le}
 use borrow.Author.Needs.{needs}
 use Rattle.by_bit.proofs.is_leaf.Statement.{statement}
 use Rattle.by_bit.proofs.is_leaf.Tie as tie

@@ -30,29 +30,29 @@ enum-known-found c = search needs
 enum-told : tie.Need-enum-told
 enum-told c = search needs
 
-refusal-of-requires : tie.Need-refusal-of-requires
-refusal-of-requires c κs = search needs
+answer-of-requires : tie.Need-answer-of-requires
+answer-of-requires c κs = search needs
 
 returns-3 : tie.Need-returns-3
-returns-3 c = let a = c .before .before .before .before .before .before .before .before .args in ap (λ r. cameTo r (a .answers .now)) (c .refusal-of .ensures ∙ ap answered (c .before .enum-told .given .1)) ∙ asked-refused (a .b .now) (a .questions .now) (a .answers .now) (threes (a .questions .now) (c .before .before .before .before .before .if1 .left) (omega (arith, c .before .before .before .before .if2 .left))) _ _ (sym (c .before .before .before .check .ensures) ∙ c .before .enum-told .given .1)
+returns-3 c = let a = c .before .before .before .before .before .before .before .before .args in ap (λ r. cameTo r (a .answers .now)) (c .answer-of .ensures ∙ ap answered (c .before .enum-told .given .1)) ∙ asked-refused (a .b .now) (a .questions .now) (a .answers .now) (threes (a .questions .now) (c .before .before .before .before .before .if1 .left) (omega (arith, c .before .before .before .before .if2 .left))) _ (sym (c .before .before .before .check .ensures) ∙ c .before .enum-told .given .1)
 
-first-bad-requires : tie.Need-first-bad-requires
-first-bad-requires c κs = omega (arith, c .before .before .before .before .before .if1 .left, c .before .before .before .before .if2 .left)
+lowest-not-allowed-requires : tie.Need-lowest-not-allowed-requires
+lowest-not-allowed-requires c κs = omega (arith, c .before .before .before .before .before .if1 .left, c .before .before .before .before .if2 .left)
 
 refuse-requires-3 : tie.Need-refuse-requires-3
 refuse-requires-3 c κs = search needs
 
 returns-4 : tie.Need-returns-4
-returns-4 c = let a = c .before .before .before .before .before .before .before .before .before .before .before .args in ap (λ r. cameTo r (a .answers .now)) (c .refuse3 .ensures ∙ ap (refusedWith 8) (c .before .before .first-bad .ensures)) ∙ asked-bad (a .b .now) (a .questions .now) (a .answers .now) (threes (a .questions .now) (c .before .before .before .before .before .before .before .before .if1 .left) (omega (arith, c .before .before .before .before .before .before .before .if2 .left))) (c .before .before .before .before .found .given .0 .0) (sym (c .before .before .before .before .before .before .check .ensures) ∙ c .before .before .before .before .found .given .1) (λ e. c .before .if3 .taken (c .before .before .first-bad .ensures ∙ e))
+returns-4 c = let a = c .before .before .before .before .before .before .before .before .before .before .before .args in ap (λ r. cameTo r (a .answers .now)) (c .refuse3 .ensures ∙ ap (refusedWith 8) (c .before .before .lowest-not-allowed .ensures)) ∙ asked-bad (a .b .now) (a .questions .now) (a .answers .now) (threes (a .questions .now) (c .before .before .before .before .before .before .before .before .if1 .left) (omega (arith, c .before .before .before .before .before .before .before .if2 .left))) (c .before .before .before .before .found .given .0 .0) (sym (c .before .before .before .before .before .before .check .ensures) ∙ c .before .before .before .before .found .given .1) (λ e. c .before .if3 .taken (c .before .before .lowest-not-allowed .ensures ∙ e))
 
 refuse-requires-4 : tie.Need-refuse-requires-4
 refuse-requires-4 c κs = search needs
 
 returns-5 : tie.Need-returns-5
-returns-5 c = let a = c .before .before .before .before .before .before .before .before .before .before .before .before .args in ap (λ r. cameTo r (a .answers .now)) (c .refuse4 .ensures) ∙ asked-short (a .b .now) (a .questions .now) (a .answers .now) (threes (a .questions .now) (c .before .before .before .before .before .before .before .before .before .if1 .left) (omega (arith, c .before .before .before .before .before .before .before .before .if2 .left))) (c .before .before .before .before .before .found .given .0 .0) (sym (c .before .before .before .before .before .before .before .check .ensures) ∙ c .before .before .before .before .before .found .given .1) (sym (c .before .before .before .first-bad .ensures) ∙ c .before .before .if3 .left) (c .before .if4 .taken)
+returns-5 c = let a = c .before .before .before .before .before .before .before .before .before .before .before .before .args in ap (λ r. cameTo r (a .answers .now)) (c .refuse4 .ensures) ∙ asked-short (a .b .now) (a .questions .now) (a .answers .now) (threes (a .questions .now) (c .before .before .before .before .before .before .before .before .before .if1 .left) (omega (arith, c .before .before .before .before .before .before .before .before .if2 .left))) (c .before .before .before .before .before .found .given .0 .0) (sym (c .before .before .before .before .before .before .before .check .ensures) ∙ c .before .before .before .before .before .found .given .1) (sym (c .before .before .before .lowest-not-allowed .ensures) ∙ c .before .before .if3 .left) (c .before .if4 .taken)
 
 write-answers-requires : tie.Need-write-answers-requires
-write-answers-requires c κs = (sym (c .before .before .before .before .before .before .before .check .ensures) ∙ c .before .before .before .before .before .found .given .1, (sym (c .before .before .before .first-bad .ensures) ∙ c .before .before .if3 .left, omega (arith, questions-count (c .before .before .before .before .before .before .before .before .before .before .before .before .args .questions .now), c .before .if4 .left)))
+write-answers-requires c κs = (sym (c .before .before .before .before .before .before .before .check .ensures) ∙ c .before .before .before .before .before .found .given .1, (sym (c .before .before .before .lowest-not-allowed .ensures) ∙ c .before .before .if3 .left, omega (arith, questions-count (c .before .before .before .before .before .before .before .before .before .before .before .before .args .questions .now), c .before .if4 .left)))
 
 cast-done : tie.Need-cast-done
 cast-done c = search needs
@@ -64,7 +64,7 @@ same-length : tie.Need-same-length
 same-length c = search needs
 
 returns-6 : tie.Need-returns-6
-returns-6 c = let a = c .before .before .before .before .before .before .before .before .before .before .before .before .before .before .before .before .args in ap₂ cameTo (c .done .ensures) (c .before .before .before .write-answers .ensures) ∙ asked-answered (a .b .now) (a .questions .now) (a .answers .now) (threes (a .questions .now) (c .before .before .before .before .before .before .before .before .before .before .before .before .before .if1 .left) (omega (arith, c .before .before .before .before .before .before .before .before .before .before .before .before .if2 .left))) (c .before .before .before .before .before .before .before .before .before .found .given .0 .0) (sym (c .before .before .before .before .before .before .before .before .before .before .before .check .ensures) ∙ c .before .before .before .before .before .before .before .before .before .found .given .1) (sym (c .before .before .before .before .before .before .before .first-bad .ensures) ∙ c .before .before .before .before .before .before .if3 .left) (c .before .before .before .before .before .if4 .left)
+returns-6 c = let a = c .before .before .before .before .before .before .before .before .before .before .before .before .before .before .before .before .args in ap₂ cameTo (c .done .ensures) (c .before .before .before .write-answers .ensures) ∙ asked-answered (a .b .now) (a .questions .now) (a .answers .now) (threes (a .questions .now) (c .before .before .before .before .before .before .before .before .before .before .before .before .before .if1 .left) (omega (arith, c .before .before .before .before .before .before .before .before .before .before .before .before .if2 .left))) (c .before .before .before .before .before .before .before .before .before .found .given .0 .0) (sym (c .before .before .before .before .before .before .before .before .before .before .before .check .ensures) ∙ c .before .before .before .before .before .before .before .before .before .found .given .1) (sym (c .before .before .before .before .before .before .before .lowest-not-allowed .ensures) ∙ c .before .before .before .before .before .before .if3 .left) (c .before .before .before .before .before .if4 .left)
 
 pub ask-spec : {M : Type 1} → statement M
 ask-spec =
@@ -77,9 +77,9 @@ ask-spec =
     check-requires
     enum-known-found
     enum-told
-    refusal-of-requires
+    answer-of-requires
     returns-3
-    first-bad-requires
+    lowest-not-allowed-requires
     refuse-requires-3
     returns-4
     refuse-requires-4

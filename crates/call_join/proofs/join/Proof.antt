@@ -5,30 +5,30 @@ use borrow.Author.Needs.{needs}
 use lib.ListN.{length}
 use Rattle.theory.proofs.Lowest.{bad-within}
 use Rattle.parents_check.proofs.Rising.{good-parents}
-use Rattle.pack_scan.proofs.Telling.{answered}
-use Rattle.table_sizes.specs.ToJoin.{Sized}
+use Rattle.theory.proofs.Settled.{answered}
+use Rattle.table_sizes.specs.ToJoin.{JoinSized}
 use Rattle.table_sizes.proofs.ToJoin.{told-right}
 use Rattle.call_join.proofs.Joining.{join-wrong, join-refused, join-entry, join-room, join-done}
 use Rattle.call_join.proofs.join.Statement.{statement}
 use Rattle.call_join.proofs.join.Tie as tie
 
 -- all sizes are right
-sized : (c : tie.Else1) → let a = c .before .before .before .before .args in Sized (length (a .pack .now)) (a .bits) (a .trees) (length (a .parents .now))
+sized : (c : tie.Else1) → let a = c .before .before .before .before .args in JoinSized (length (a .pack .now)) (a .bits) (a .trees) (length (a .parents .now))
 sized c =
     let a = c .before .before .before .before .args in
-    told-right (length (a .pack .now)) (a .bits) (a .trees) (length (a .parents .now)) (c .before .wrong-to-join .ensures) (c .if1 .left)
+    told-right (length (a .pack .now)) (a .bits) (a .trees) (length (a .parents .now)) (c .before .join-sizes-wrong .ensures) (c .if1 .left)
 
-wrong-to-join-requires : tie.Need-wrong-to-join-requires
-wrong-to-join-requires c κs = search needs
+join-sizes-wrong-requires : tie.Need-join-sizes-wrong-requires
+join-sizes-wrong-requires c κs = search needs
 
 refuse-requires : tie.Need-refuse-requires
 refuse-requires c κs = search needs
 
 returns : tie.Need-returns
-returns c = answered (c .refuse .ensures) (join-wrong _ _ _ _ (c .before .before .wrong-to-join .ensures) (c .before .if1 .taken))
+returns c = answered (c .refuse .ensures) (join-wrong _ _ _ _ (c .before .before .join-sizes-wrong .ensures) (c .before .if1 .taken))
 
-holds-trees-requires : tie.Need-holds-trees-requires
-holds-trees-requires c κs = let z = sized (c .before) in (omega (arith, z .bytes), (omega (arith, z .fits), omega (arith, z .room)))
+check-pack-requires : tie.Need-check-pack-requires
+check-pack-requires c κs = let z = sized (c .before) in (omega (arith, z .bytes), (omega (arith, z .fits), omega (arith, z .room)))
 
 enum-known-held : tie.Need-enum-known-held
 enum-known-held c = search needs
@@ -57,7 +57,7 @@ same-length c = search needs
 returns-2 : tie.Need-returns-2
 returns-2 c =
     let t = c .before .before .before in
-    answered (c .refuse3 .ensures) (join-entry _ _ _ _ (sized (t .before .before .before .before)) (sym (t .enum-told .given .1) ∙ t .before .before .holds-trees .ensures) (c .before .before .bad-entry .ensures) (c .before .if2 .taken))
+    answered (c .refuse3 .ensures) (join-entry _ _ _ _ (sized (t .before .before .before .before)) (sym (t .enum-told .given .1) ∙ t .before .before .check-pack .ensures) (c .before .before .bad-entry .ensures) (c .before .if2 .taken))
 
 mul-longer : tie.Need-mul-longer
 mul-longer c = search needs
@@ -85,7 +85,7 @@ returns-3 c =
     let z = sized s in
     let g = sym (c .before .before .before .bad-entry .ensures) ∙ c .before .before .if2 .left in
     answered (c .refuse4 .ensures)
-    (join-room (a .pack .now) (a .bits) (a .trees) (a .parents .now) z (sym (t .enum-told .given .1) ∙ t .before .before .holds-trees .ensures) g (good-parents _ (z .some) g)
+    (join-room (a .pack .now) (a .bits) (a .trees) (a .parents .now) z (sym (t .enum-told .given .1) ∙ t .before .before .check-pack .ensures) g (good-parents _ (z .some) g)
     (omega (arith, c .before .if3 .taken)))
 
 write-string-requires : tie.Need-write-string-requires
@@ -111,7 +111,7 @@ same-length-3 c = search needs
 returns-4 : tie.Need-returns-4
 returns-4 c =
     let p = c .before .before in
-    answered (c .refuse2 .ensures) (join-refused _ _ _ _ (sized (p .before .before .before .before)) (sym (p .held .given .1) ∙ p .before .before .holds-trees .ensures))
+    answered (c .refuse2 .ensures) (join-refused _ _ _ _ (sized (p .before .before .before .before)) (sym (p .held .given .1) ∙ p .before .before .check-pack .ensures))
 
 same-length-4 : tie.Need-same-length-4
 same-length-4 c = search needs
@@ -121,16 +121,16 @@ returns-5 c =
     let t = c .before .before .before .before .before .before .before .before in
     let z = sized (t .before .before .before .before) in
     let g = sym (c .before .before .before .before .before .before .before .bad-entry .ensures) ∙ c .before .before .before .before .before .before .if2 .left in
-    join-done _ _ _ _ z (sym (t .enum-told .given .1) ∙ t .before .before .holds-trees .ensures) g (good-parents _ (z .some) g) (c .done .ensures) (c .before .before .before .write-string .ensures) (c .before .before .before .before .before .if3 .left)
+    join-done _ _ _ _ z (sym (t .enum-told .given .1) ∙ t .before .before .check-pack .ensures) g (good-parents _ (z .some) g) (c .done .ensures) (c .before .before .before .write-string .ensures) (c .before .before .before .before .before .if3 .left)
 
 pub join-spec : {M : Type 1} → statement M
 join-spec =
     tie.close
     (tie.spec
-    wrong-to-join-requires
+    join-sizes-wrong-requires
     refuse-requires
     returns
-    holds-trees-requires
+    check-pack-requires
     enum-known-held
     refuse-requires-2
     enum-told

@@ -23,15 +23,15 @@ enum-known-found c = search needs
 enum-told : tie.Need-enum-told
 enum-told c = search needs
 
-refusal-of-requires : tie.Need-refusal-of-requires
-refusal-of-requires c κs = search needs
+answer-of-requires : tie.Need-answer-of-requires
+answer-of-requires c κs = search needs
 
 returns : tie.Need-returns
 returns c =
     let a = c .before .before .before .before .before .before .args in
     let told = c .before .enum-told .given .1 in
-    ap (λ r. cameTo r (a .out .now)) (c .refusal-of .ensures ∙ ap answered told)
-    ∙ list-refused (a .b .now) (a .node) (a .out .now) _ _ (sym (c .before .before .before .check .ensures) ∙ told)
+    ap (λ r. cameTo r (a .out .now)) (c .answer-of .ensures ∙ ap answered told)
+    ∙ list-refused (a .b .now) (a .node) (a .out .now) _ (sym (c .before .before .before .check .ensures) ∙ told)
 
 refuse-requires : tie.Need-refuse-requires
 refuse-requires c κs = search needs
@@ -137,7 +137,7 @@ list-spec =
     check-requires
     enum-known-found
     enum-told
-    refusal-of-requires
+    answer-of-requires
     returns
     refuse-requires
     returns-2

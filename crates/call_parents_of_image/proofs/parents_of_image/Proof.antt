@@ -17,11 +17,11 @@ enum-known-found c = search needs
 enum-told : tie.Need-enum-told
 enum-told c = search needs
 
-refusal-of-requires : tie.Need-refusal-of-requires
-refusal-of-requires c κs = search needs
+answer-of-requires : tie.Need-answer-of-requires
+answer-of-requires c κs = search needs
 
 returns : tie.Need-returns
-returns c = ap (λ a. cameTo a (c .before .before .before .before .before .before .args .out .now)) (c .refusal-of .ensures ∙ ap answered (c .before .enum-told .given .1)) ∙ parents-refused (c .before .before .before .before .before .before .args .b .now) (c .before .before .before .before .before .before .args .out .now) _ _ (sym (c .before .before .before .check .ensures) ∙ c .before .enum-told .given .1)
+returns c = ap (λ a. cameTo a (c .before .before .before .before .before .before .args .out .now)) (c .answer-of .ensures ∙ ap answered (c .before .enum-told .given .1)) ∙ parents-refused (c .before .before .before .before .before .before .args .b .now) (c .before .before .before .before .before .before .args .out .now) _ (sym (c .before .before .before .check .ensures) ∙ c .before .enum-told .given .1)
 
 cast-nodes : tie.Need-cast-nodes
 cast-nodes c = search needs
@@ -54,7 +54,7 @@ parents-of-image-spec =
     check-requires
     enum-known-found
     enum-told
-    refusal-of-requires
+    answer-of-requires
     returns
     cast-nodes
     refuse-requires

@@ -3,34 +3,34 @@ use mathlib.Core.Path.{refl, sym, _∙_}
 use native.Mathlib.Omega.{arith}
 use borrow.Author.Needs.{needs}
 use lib.ListN.{length}
-use Rattle.pack_scan.proofs.Telling.{answered}
-use Rattle.table_sizes.specs.ToSplit.{Sized}
+use Rattle.theory.proofs.Settled.{answered}
+use Rattle.table_sizes.specs.ToSplit.{SplitSized}
 use Rattle.table_sizes.proofs.ToSplit.{told-right}
 use Rattle.call_split.proofs.Splitting.{split-wrong, split-refused, split-firsts, split-sizes, split-done}
 use Rattle.call_split.proofs.split.Statement.{statement}
 use Rattle.call_split.proofs.split.Tie as tie
 
 -- the sizes of what is lent are right
-sized : (c : tie.Else1) → let a = c .before .before .before .before .before .args in Sized (length (a .bytes .now)) (a .bits) (a .trees)
-sized c = let a = c .before .before .before .before .before .args in told-right (length (a .bytes .now)) (a .bits) (a .trees) (c .before .wrong-to-split .ensures) (c .if1 .left)
+sized : (c : tie.Else1) → let a = c .before .before .before .before .before .args in SplitSized (length (a .bytes .now)) (a .bits) (a .trees)
+sized c = let a = c .before .before .before .before .before .args in told-right (length (a .bytes .now)) (a .bits) (a .trees) (c .before .split-sizes-wrong .ensures) (c .if1 .left)
 
-wrong-to-split-requires : tie.Need-wrong-to-split-requires
-wrong-to-split-requires c κs = search needs
+split-sizes-wrong-requires : tie.Need-split-sizes-wrong-requires
+split-sizes-wrong-requires c κs = search needs
 
 refuse-requires : tie.Need-refuse-requires
 refuse-requires c κs = search needs
 
 returns : tie.Need-returns
-returns c = answered (c .refuse .ensures) (split-wrong _ _ _ _ _ (c .before .before .wrong-to-split .ensures) (c .before .if1 .taken))
+returns c = answered (c .refuse .ensures) (split-wrong _ _ _ _ _ (c .before .before .split-sizes-wrong .ensures) (c .before .if1 .taken))
 
-slice-aggregate-trees-held : tie.Need-slice-aggregate-trees-held
-slice-aggregate-trees-held c = search needs
+slice-aggregate-check-and-note : tie.Need-slice-aggregate-check-and-note
+slice-aggregate-check-and-note c = search needs
 
-slice-aggregate-trees-held-2 : tie.Need-slice-aggregate-trees-held-2
-slice-aggregate-trees-held-2 c = search needs
+slice-aggregate-check-and-note-2 : tie.Need-slice-aggregate-check-and-note-2
+slice-aggregate-check-and-note-2 c = search needs
 
-trees-held-requires : tie.Need-trees-held-requires
-trees-held-requires c κs = let z = sized (c .before .before) in (omega (arith, z .exact), (z .short, z .few))
+check-and-note-requires : tie.Need-check-and-note-requires
+check-and-note-requires c κs = let z = sized (c .before .before) in (omega (arith, z .exact), (z .short, z .few))
 
 enum-known-held : tie.Need-enum-known-held
 enum-known-held c = search needs
@@ -47,7 +47,7 @@ refuse-requires-3 c κs = search needs
 returns-2 : tie.Need-returns-2
 returns-2 c =
     let p = c .before .before in
-    answered (c .refuse3 .ensures) (split-firsts _ _ _ _ _ (sized (p .before .before .before .before .before .before .before)) (sym (p .enum-told .given .1) ∙ p .before .before .before .before .trees-held .ensures .0) (c .before .if2 .taken))
+    answered (c .refuse3 .ensures) (split-firsts _ _ _ _ _ (sized (p .before .before .before .before .before .before .before)) (sym (p .enum-told .given .1) ∙ p .before .before .before .before .check-and-note .ensures .0) (c .before .if2 .taken))
 
 refuse-requires-4 : tie.Need-refuse-requires-4
 refuse-requires-4 c κs = search needs
@@ -58,7 +58,7 @@ returns-3 c =
     let s = p .before .before .before .before .before .before .before in
     let a = s .before .before .before .before .before .args in
     answered (c .refuse4 .ensures)
-    (split-sizes (a .bytes .now) (a .bits) (a .trees) (a .firsts .now) (a .counts .now) (sized s) (sym (p .enum-told .given .1) ∙ p .before .before .before .before .trees-held .ensures .0)
+    (split-sizes (a .bytes .now) (a .bits) (a .trees) (a .firsts .now) (a .counts .now) (sized s) (sym (p .enum-told .given .1) ∙ p .before .before .before .before .check-and-note .ensures .0)
     (omega (arith, c .before .before .if2 .left, c .before .if3 .taken)))
 
 slice-aggregate-hand-over : tie.Need-slice-aggregate-hand-over
@@ -85,7 +85,7 @@ done-requires c κs = search needs
 returns-4 : tie.Need-returns-4
 returns-4 c =
     let p = c .before .before in
-    answered (c .refuse2 .ensures) (split-refused _ _ _ _ _ (sized (p .before .before .before .before .before .before .before)) (sym (p .held .given .1) ∙ p .before .before .before .before .trees-held .ensures .0))
+    answered (c .refuse2 .ensures) (split-refused _ _ _ _ _ (sized (p .before .before .before .before .before .before .before)) (sym (p .held .given .1) ∙ p .before .before .before .before .check-and-note .ensures .0))
 
 same-length : tie.Need-same-length
 same-length c = search needs
@@ -96,7 +96,7 @@ same-length-2 c = search needs
 returns-5 : tie.Need-returns-5
 returns-5 c =
     let t = c .before .before .before .before .before .before .before .before .before .before .before .before .before in
-    let h = t .before .before .before .before .trees-held .ensures in
+    let h = t .before .before .before .before .check-and-note .ensures in
     let all = t .enum-told .given .1 in
     split-done _ _ _ _ _ (sized (t .before .before .before .before .before .before .before)) (sym all ∙ h .0) _ (c .done .ensures) refl (h .1 .0 all) (h .1 .1 all) (c .before .before .before .before .before .before .before .before .hand-over .ensures) (c .before .before .before .hand-over2 .ensures) (c .before .before .before .before .before .before .before .before .before .before .before .before .if2 .left) (c .before .before .before .before .before .before .before .before .before .before .before .if3 .left)
 
@@ -104,12 +104,12 @@ pub split-spec : {M : Type 1} → statement M
 split-spec =
     tie.close
     (tie.spec
-    wrong-to-split-requires
+    split-sizes-wrong-requires
     refuse-requires
     returns
-    slice-aggregate-trees-held
-    slice-aggregate-trees-held-2
-    trees-held-requires
+    slice-aggregate-check-and-note
+    slice-aggregate-check-and-note-2
+    check-and-note-requires
     enum-known-held
     refuse-requires-2
     enum-told

@@ -4,7 +4,7 @@ use native.Mathlib.Omega.{arith}
 use borrow.Author.Needs.{needs}
 use Rattle.meaning.specs.Image.{stringIn}
 use Rattle.theory.specs.Stages.{Ended}
-use Rattle.image_string.proofs.Saying.{says-is}
+use Rattle.image_string.proofs.Saying.{decides-is}
 use Rattle.image_string.proofs.Pieces.{ended, ended-last}
 use Rattle.check_counts.proofs.string_ended.Statement.{statement}
 use Rattle.check_counts.proofs.string_ended.Tie as tie
@@ -26,7 +26,7 @@ returns-2 c =
     let string-bit = c .string-bit in
     let a = c .before .before .before .before .args in
     let r = string-bit .result in
-    says-is r 1 (Ended (a .m) (stringIn (a .b .now) (a .first) 0 (a .n)))
+    decides-is r 1 (Ended (a .m) (stringIn (a .b .now) (a .first) 0 (a .n)))
     (ended (a .b .now) (a .first) (a .n) (a .m) r (omega arith) (string-bit .ensures) (sym (c .before .before .ones-in-string .ensures) ∙ c .before .if1 .left))
     (ended-last (a .b .now) (a .first) (a .n) (a .m) r (omega arith) (string-bit .ensures))
 

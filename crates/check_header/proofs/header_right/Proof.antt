@@ -4,7 +4,7 @@ use borrow.Author.Needs.{needs}
 use Rattle.theory.specs.Stages.{Header}
 use Rattle.image_string.specs.Parts.{ZeroBytes}
 use Rattle.check_header.proofs.Reserved.{words-zero, header-all, header-needs}
-use Rattle.image_string.proofs.Saying.{says-same}
+use Rattle.image_string.proofs.Saying.{decides-same}
 use Rattle.check_header.proofs.header_right.Statement.{statement}
 use Rattle.check_header.proofs.header_right.Tie as tie
 
@@ -59,8 +59,8 @@ returns-7 c =
     λ h. c .if7 .taken
     (c .before .blocks-needed .ensures ∙ header-needs (a .b .now) (a .blocks) (word .result) (word2 .result) (pre .0) (word .ensures) (word2 .ensures) h)
 
-zeros-between-requires : tie.Need-zeros-between-requires
-zeros-between-requires c κs = search needs
+all-zero-requires : tie.Need-all-zero-requires
+all-zero-requires c κs = search needs
 
 returns-8 : tie.Need-returns-8
 returns-8 c =
@@ -72,10 +72,10 @@ returns-8 c =
     ∙ c .before .before .before .before .before .before .before .before .before .if1 .left in
     let count = sym (c .before .before .before .before .word4 .ensures) ∙ c .before .before .before .if6 .left in
     let needed = sym (c .before .before .blocks-needed .ensures) ∙ c .before .if7 .left in
-    says-same (c .zeros-between .result) (ZeroBytes (a .b .now) 16 504) (Header (a .b .now))
+    decides-same (c .all-zero .result) (ZeroBytes (a .b .now) 16 504) (Header (a .b .now))
     (header-all (a .b .now) (a .blocks) (word .result) (word2 .result) (start .pre .0) (word .ensures) (word2 .ensures)
     version (c .before .before .before .before .before .before .before .before .if2 .left) (c .before .before .before .before .before .before .before .if3 .left) (c .before .before .before .before .before .before .if4 .left) (c .before .before .before .before .before .if5 .left) count needed)
-    (λ h. words-zero (a .b .now) (h .reserved)) (c .zeros-between .ensures)
+    (λ h. words-zero (a .b .now) (h .reserved)) (c .all-zero .ensures)
 
 pub header-right-spec : {M : Type 1} → statement M
 header-right-spec =
@@ -96,5 +96,5 @@ header-right-spec =
     returns-6
     blocks-needed-requires
     returns-7
-    zeros-between-requires
+    all-zero-requires
     returns-8)

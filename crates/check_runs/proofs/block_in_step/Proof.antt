@@ -3,9 +3,9 @@ use borrow.Author.Needs.{needs}
 use mathlib.Core.Path.{_∙_}
 use Prim.Native.Nat.{_+_, _*_}
 use native.Mathlib.Omega.{arith}
-use Rattle.byte_steps.specs.Steps.{StepAt}
+use Rattle.check_runs_words.specs.Steps.{StepAt}
 use Rattle.check_runs.specs.Steps.{StepWithin}
-use Rattle.image_string.proofs.Saying.{says-same}
+use Rattle.image_string.proofs.Saying.{decides-same}
 use Rattle.image_string.proofs.Ones.{onesTo-le}
 use Rattle.check_runs.proofs.Stepping.{step-block, block-step}
 use Rattle.check_runs.proofs.block_in_step.Statement.{statement}
@@ -57,7 +57,7 @@ returns c =
     let k0 = c .before .word2 .result in
     let e1 = c .before .before .word .ensures ∙ c .before .before .before .before .pre .1 .1 .1 .1 .1 .0 in
     let e0 = c .before .word2 .ensures ∙ c .before .before .before .before .pre .1 .1 .1 .1 .1 .1 in
-    says-same (c .words-in-step .result) (StepAt b (512 * (1 + a .j) + 4) (512 * (a .zeros + a .j) + 4) (a .n) k1 k0) (StepWithin b (a .zeros) (4000 * a .j) (4000 * a .j + a .n))
+    decides-same (c .words-in-step .result) (StepAt b (512 * (1 + a .j) + 4) (512 * (a .zeros + a .j) + 4) (a .n) k1 k0) (StepWithin b (a .zeros) (4000 * a .j) (4000 * a .j + a .n))
     (step-block b (a .zeros) (a .j) (a .n) k1 k0 (omega arith) e1 e0) (block-step b (a .zeros) (a .j) (a .n) k1 k0 (omega arith) e1 e0) (c .words-in-step .ensures)
 
 pub block-in-step-spec : {M : Type 1} → statement M

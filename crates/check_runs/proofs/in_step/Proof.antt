@@ -7,7 +7,7 @@ use Rattle.theory.specs.Layout.{wordAt}
 use Rattle.theory.specs.Stages.{InStep}
 use Rattle.image_string.specs.Parts.{onesTo}
 use Rattle.check_runs.specs.Steps.{StepWithin}
-use Rattle.image_string.proofs.Saying.{says-held, says-missed, says-same}
+use Rattle.image_string.proofs.Saying.{decides-held, decides-missed, decides-same}
 use Rattle.image_string.proofs.Within.{within-join}
 use Rattle.check_runs.proofs.Stepping.{no-first, in-step, step-within}
 use Rattle.check_runs.proofs.in_step.Statement.{statement}
@@ -46,7 +46,7 @@ returns-2 : tie.Need-returns-2 Inv-loop μ-loop
 returns-2 c =
     let a = c .before .before .before .before .before .before .before .args in
     let j = c .before .before .before .loop .j in
-    λ s. says-missed (c .before .full-block-in-step .result) (StepWithin (a .b .now) (a .zeros) (4000 * j) (4000 * j + 4000)) (c .before .full-block-in-step .ensures) (c .if2 .taken) (λ p h g. step-within (a .b .now) (a .zeros) (a .n) s p (omega arith) (omega arith))
+    λ s. decides-missed (c .before .full-block-in-step .result) (StepWithin (a .b .now) (a .zeros) (4000 * j) (4000 * j + 4000)) (c .before .full-block-in-step .ensures) (c .if2 .taken) (λ p h g. step-within (a .b .now) (a .zeros) (a .n) s p (omega arith) (omega arith))
 
 add-j : tie.Need-add-j Inv-loop μ-loop
 add-j c = omega arith
@@ -60,7 +60,7 @@ loop-again c =
     let b = a .b .now in
     let z = a .zeros in
     let j = c .before .before .before .loop .j in
-    let this = says-held (c .before .full-block-in-step .result) (StepWithin b z (4000 * j) (4000 * j + 4000)) (c .before .full-block-in-step .ensures) (c .if2 .left) in
+    let this = decides-held (c .before .full-block-in-step .result) (StepWithin b z (4000 * j) (4000 * j + 4000)) (c .before .full-block-in-step .ensures) (c .if2 .left) in
     (omega arith, λ p h g. within-join (λ q. onesTo b 1 q ≤ onesTo b z q) 0 (4000 * j) (4000 * j + 4000) (c .before .before .before .loop .inv .1) this p h (omega arith))
 
 mul-block-in-step : tie.Need-mul-block-in-step Inv-loop μ-loop
@@ -81,7 +81,7 @@ returns-3 c =
     let z = a .zeros in
     let n = a .n in
     let j = (n - 1) / 4000 in
-    says-same (c .block-in-step .result) (StepWithin b z (4000 * j) (4000 * j + (n - 4000 * j))) (InStep (stringIn b 1 0 n) (stringIn b z 0 (n + 1)))
+    decides-same (c .block-in-step .result) (StepWithin b z (4000 * j) (4000 * j + (n - 4000 * j))) (InStep (stringIn b 1 0 n) (stringIn b z 0 (n + 1)))
     (λ this. in-step b z n (c .before .before .before .before .before .before .pre .0) (c .before .before .before .before .string-bit .result) (c .before .before .before .before .string-bit .ensures) (c .before .before .before .if1 .left)
     (λ p h g. within-join (λ q. onesTo b 1 q ≤ onesTo b z q) 0 (4000 * j) (4000 * j + (n - 4000 * j)) (λ q f k. c .before .before .loop .inv .1 q f (omega arith)) this p h (omega arith)))
     (λ s p h g. step-within b z n s p (omega arith) (omega arith)) (c .block-in-step .ensures)

@@ -7,7 +7,7 @@ use lib.ListN.{getD}
 use Rattle.theory.specs.Layout.{wordAt}
 use Rattle.bits_count.proofs.Runs.{bits-ones-le}
 use Rattle.bits_count.proofs.Words.{ending-le}
-use Rattle.image_string.proofs.Saying.{says-is}
+use Rattle.image_string.proofs.Saying.{decides-is}
 use Rattle.check_sample.specs.Words.{NamesOne}
 use Rattle.check_sample.proofs.Naming.{named, named-inside, named-one, one-counted, counted-one}
 use Rattle.check_sample.proofs.sample_right.Statement.{statement}
@@ -95,7 +95,7 @@ returns-4 c =
     let r = c .before .before .ones-ending .result in
     let t = getD (a .table .now) (o / 64) 0 in
     let counts = s .pre .1 .1 .1 .1 .1 .1 .1 (o / 64) (omega arith) in
-    says-is (t + r) (a .nth) (NamesOne (a .b .now) (a .at) (a .n) (a .i) (a .nth) (wordAt (a .b .now) (a .p)))
+    decides-is (t + r) (a .nth) (NamesOne (a .b .now) (a .at) (a .n) (a .i) (a .nth) (wordAt (a .b .now) (a .p)))
     (λ h.
     let one = counted-one (a .b .now) (a .at) o t r counts (c .before .before .ones-ending .ensures) (c .before .if3 .left) in
     let here = one-counted (a .b .now) (a .at) o t r counts (c .before .before .ones-ending .ensures) one in

@@ -3,7 +3,7 @@ use mathlib.Core.Path.{refl}
 use Prim.Native.Nat.{_+_, _*_, _/_, _%_}
 use borrow.Author.Needs.{needs}
 use Rattle.image_string.specs.Parts.{ZeroBytes}
-use Rattle.image_string.proofs.Saying.{says-same}
+use Rattle.image_string.proofs.Saying.{decides-same}
 use Rattle.check_sample.specs.Words.{RestZero}
 use Rattle.check_sample.proofs.Ending.{rest-zero, zero-rest}
 use Rattle.check_sample.proofs.words_zero.Statement.{statement}
@@ -21,17 +21,17 @@ add-at c = search needs
 mul-at : tie.Need-mul-at
 mul-at c = search needs
 
-mul-zeros-between : tie.Need-mul-zeros-between
-mul-zeros-between c = search needs
+mul-all-zero : tie.Need-mul-all-zero
+mul-all-zero c = search needs
 
-add-zeros-between : tie.Need-add-zeros-between
-add-zeros-between c = search needs
+add-all-zero : tie.Need-add-all-zero
+add-all-zero c = search needs
 
-add-zeros-between-2 : tie.Need-add-zeros-between-2
-add-zeros-between-2 c = search needs
+add-all-zero-2 : tie.Need-add-all-zero-2
+add-all-zero-2 c = search needs
 
-zeros-between-requires : tie.Need-zeros-between-requires
-zeros-between-requires c κs = search needs
+all-zero-requires : tie.Need-all-zero-requires
+all-zero-requires c κs = search needs
 
 returns-2 : tie.Need-returns-2
 returns-2 c =
@@ -39,8 +39,8 @@ returns-2 c =
     let b = a .b .now in
     let s = (a .m + 63) / 64 in
     let at = 512 * (a .from + s / 126) in
-    says-same (c .zeros-between .result) (ZeroBytes b (at + 4 * (s % 126)) (at + 504)) (RestZero b (a .from) (a .m))
-    (rest-zero b (a .from) (a .m) s refl (c .before .if1 .left) at refl) (zero-rest b (a .from) (a .m) s refl (c .before .if1 .left) at refl) (c .zeros-between .ensures)
+    decides-same (c .all-zero .result) (ZeroBytes b (at + 4 * (s % 126)) (at + 504)) (RestZero b (a .from) (a .m))
+    (rest-zero b (a .from) (a .m) s refl (c .before .if1 .left) at refl) (zero-rest b (a .from) (a .m) s refl (c .before .if1 .left) at refl) (c .all-zero .ensures)
 
 pub words-zero-spec : {M : Type 1} → statement M
 words-zero-spec =
@@ -50,8 +50,8 @@ words-zero-spec =
     returns
     add-at
     mul-at
-    mul-zeros-between
-    add-zeros-between
-    add-zeros-between-2
-    zeros-between-requires
+    mul-all-zero
+    add-all-zero
+    add-all-zero-2
+    all-zero-requires
     returns-2)

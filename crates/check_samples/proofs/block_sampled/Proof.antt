@@ -3,9 +3,9 @@ use borrow.Author.Needs.{needs}
 use mathlib.Core.Path.{_∙_}
 use Prim.Native.Nat.{_+_, _*_}
 use native.Mathlib.Omega.{arith}
-use Rattle.piece_samples.specs.Pieces.{PieceSampled}
+use Rattle.check_samples.specs.Pieces.{PieceSampled}
 use Rattle.check_samples.specs.Samples.{SampledWithin}
-use Rattle.image_string.proofs.Saying.{says-same}
+use Rattle.image_string.proofs.Saying.{decides-same}
 use Rattle.image_string.proofs.Ones.{onesTo-le, onesTo-block}
 use Rattle.check_samples.proofs.Sampling.{sampled-block, block-sampled}
 use Rattle.check_samples.proofs.block_sampled.Statement.{statement}
@@ -43,7 +43,7 @@ returns c =
     let b = a .b .now in
     let k = c .before .word .result in
     let e = c .before .word .ensures ∙ c .before .before .before .pre .1 .1 .1 .1 .1 .1 .1 in
-    says-same (c .piece-sampled .result) (PieceSampled b (a .from) (512 * (a .first + a .j) + 4) (a .n) (4000 * a .j) k) (SampledWithin b (a .from) (a .first) (4000 * a .j) (4000 * a .j + a .n))
+    decides-same (c .piece-sampled .result) (PieceSampled b (a .from) (512 * (a .first + a .j) + 4) (a .n) (4000 * a .j) k) (SampledWithin b (a .from) (a .first) (4000 * a .j) (4000 * a .j + a .n))
     (sampled-block b (a .from) (a .first) (a .j) (a .n) k (omega arith) e) (block-sampled b (a .from) (a .first) (a .j) (a .n) k (omega arith) e) (c .piece-sampled .ensures)
 
 pub block-sampled-spec : {M : Type 1} → statement M

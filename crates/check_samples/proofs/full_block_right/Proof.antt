@@ -5,9 +5,9 @@ use Prim.Native.Nat.{_+_, _*_}
 use native.Mathlib.Omega.{arith}
 use Rattle.meaning.specs.Strings.{ones}
 use Rattle.meaning.specs.Bytes.{bitsFrom}
-use Rattle.piece_samples.specs.Pieces.{PieceSampled}
+use Rattle.check_samples.specs.Pieces.{PieceSampled}
 use Rattle.check_samples.specs.Samples.{BlockRight}
-use Rattle.image_string.proofs.Saying.{says-same}
+use Rattle.image_string.proofs.Saying.{decides-same}
 use Rattle.image_string.proofs.Ones.{onesTo-le, onesTo-block}
 use Rattle.check_samples.proofs.Sampling.{sampled-block, block-sampled}
 use Rattle.check_samples.proofs.full_block_right.Statement.{statement}
@@ -45,7 +45,7 @@ returns c =
     let e = c .before .word .ensures ∙ c .before .before .before .pre .1 .1 .1 .1 .1 in
     let at = 512 * (a .first + a .j) + 4 in
     let whole = onesTo-block b (a .first) (a .j) 4000 (omega arith) in
-    says-same (c .full-piece-right .result) ((a .end ≡ k + ones (bitsFrom b (8 * at) 4000)) × PieceSampled b (a .from) at 4000 (4000 * a .j) k) (BlockRight b (a .from) (a .first) (a .j) (a .end))
+    decides-same (c .full-piece-right .result) ((a .end ≡ k + ones (bitsFrom b (8 * at) 4000)) × PieceSampled b (a .from) at 4000 (4000 * a .j) k) (BlockRight b (a .from) (a .first) (a .j) (a .end))
     (λ s. (omega (arith, s .0), sampled-block b (a .from) (a .first) (a .j) 4000 k (omega arith) e (s .1)))
     (λ s. (omega (arith, s .0), block-sampled b (a .from) (a .first) (a .j) 4000 k (omega arith) e (s .1))) (c .full-piece-right .ensures)
 

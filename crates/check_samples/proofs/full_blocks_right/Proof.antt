@@ -4,7 +4,7 @@ use Prim.Native.Nat.{_+_, _-_, _*_, _/_, _≤_}
 use native.Mathlib.Omega.{arith}
 use Rattle.theory.specs.Layout.{wordAt}
 use Rattle.image_string.specs.Parts.{onesTo}
-use Rattle.image_string.proofs.Saying.{says-held, says-missed}
+use Rattle.image_string.proofs.Saying.{decides-held, decides-missed}
 use Rattle.image_string.proofs.Within.{within-join}
 use Rattle.image_string.proofs.Ones.{onesTo-mono, onesTo-le}
 use Rattle.image_string.proofs.Pieces.{CountedTo, counted-more}
@@ -78,7 +78,7 @@ returns-3 : tie.Need-returns-3 Inv-loop μ-loop
 returns-3 c = λ right.
     let a = c .before .before .before .before .before .before .before .before .before .args in
     let j = c .before .before .before .before .before .loop .j in
-    says-missed (c .before .full-block-right .result) (BlockRight (a .b .now) (a .from) (a .first) j (c .before .before .before .word2 .result)) (c .before .full-block-right .ensures) (c .if3 .taken)
+    decides-missed (c .before .full-block-right .result) (BlockRight (a .b .now) (a .from) (a .first) j (c .before .before .before .word2 .result)) (c .before .full-block-right .ensures) (c .if3 .taken)
     (next (c .before .before .before) ∙ right .counted (j + 1) (omega arith) ∙ ap (onesTo (a .b .now) (a .first)) (let e : 4000 * (j + 1) ≡ 4000 * j + 4000 = omega arith in e), λ p h g. right .sampled p (omega arith) (omega arith))
 
 add-j : tie.Need-add-j Inv-loop μ-loop
@@ -93,7 +93,7 @@ loop-again c =
     let b = a .b .now in
     let l = c .before .before .before .before .before .loop in
     let j = l .j in
-    let this = says-held (c .before .full-block-right .result) (BlockRight b (a .from) (a .first) j (c .before .before .before .word2 .result)) (c .before .full-block-right .ensures) (c .if3 .left) in
+    let this = decides-held (c .before .full-block-right .result) (BlockRight b (a .from) (a .first) j (c .before .before .before .word2 .result)) (c .before .full-block-right .ensures) (c .if3 .left) in
     let same = ap (onesTo b (a .first)) (let e : 4000 * (j + 1) ≡ 4000 * j + 4000 = omega arith in e) in (
       omega arith,
       counted-more b (a .first) (j + 1) (l .inv .1) (sym (next (c .before .before .before)) ∙ this .0 ∙ sym same),

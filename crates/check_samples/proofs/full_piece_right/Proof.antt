@@ -9,8 +9,8 @@ use Rattle.meaning.specs.Bytes.{bitsFrom}
 use Rattle.bits_count.proofs.Runs.{bits-ones-le, ones-after}
 use Rattle.check_sample_table.specs.Table.{CountsBefore}
 use Rattle.check_sample_table.proofs.Adding.{counts-few, counts-before}
-use Rattle.piece_samples.specs.Pieces.{PieceSampled}
-use Rattle.image_string.proofs.Saying.{says-same}
+use Rattle.check_samples.specs.Pieces.{PieceSampled}
+use Rattle.image_string.proofs.Saying.{decides-same}
 use Rattle.check_samples.proofs.full_piece_right.Statement.{statement}
 use Rattle.check_samples.proofs.full_piece_right.Tie as tie
 
@@ -75,7 +75,7 @@ returns-2 : tie.Need-returns-2
 returns-2 c =
     let a = c .before .before .before .before .before .before .before .before .before .args in
     let e : a .end ≡ a .k + ones (bitsFrom (a .b .now) (8 * a .at) 4000) = omega (arith, whole (c .before .before .before), c .before .before .if1 .left) in
-    says-same (c .each-sampled .result) (PieceSampled (a .b .now) (a .from) (a .at) 4000 (a .i) (a .k))
+    decides-same (c .each-sampled .result) (PieceSampled (a .b .now) (a .from) (a .at) 4000 (a .i) (a .k))
     ((a .end ≡ a .k + ones (bitsFrom (a .b .now) (8 * a .at) 4000)) × PieceSampled (a .b .now) (a .from) (a .at) 4000 (a .i) (a .k))
     (λ s. (e, s)) (λ p. p .1) (c .each-sampled .ensures)
 

@@ -9,7 +9,7 @@ use Rattle.image_string.specs.Parts.{onesTo}
 use Rattle.check_sample.specs.Words.{RestZero}
 use Rattle.check_samples.specs.Samples.{SampledAt, SampledWithin}
 use Rattle.image_string.proofs.Ones.{onesTo-le}
-use Rattle.image_string.proofs.Saying.{says-held, says-missed, says-same}
+use Rattle.image_string.proofs.Saying.{decides-held, decides-missed, decides-same}
 use Rattle.image_string.proofs.Within.{within-join}
 use Rattle.check_samples.proofs.Sampling.{sampled, sampled-within, sampled-rest}
 use Rattle.check_samples.proofs.samples_right.Statement.{statement}
@@ -39,7 +39,7 @@ returns c =
     let b = a .b .now in
     let j = (a .n - 1) / 4000 in
     λ all.
-    says-missed (c .before .block-sampled .result) (SampledWithin b (a .from) (a .first) (4000 * j) (4000 * j + (a .n - 4000 * j))) (c .before .block-sampled .ensures) (c .if1 .taken)
+    decides-missed (c .before .block-sampled .result) (SampledWithin b (a .from) (a .first) (4000 * j) (4000 * j + (a .n - 4000 * j))) (c .before .block-sampled .ensures) (c .if1 .taken)
     (λ p h g. sampled-within b (a .from) (a .first) (a .n) (a .m) (s .pre .1 .1 .0) all p (omega arith) (omega arith))
 
 words-zero-requires : tie.Need-words-zero-requires
@@ -52,10 +52,10 @@ returns-2 c =
     let b = a .b .now in
     let count = s .pre .1 .1 .0 in
     let j = (a .n - 1) / 4000 in
-    let this = says-held (c .before .before .block-sampled .result) (SampledWithin b (a .from) (a .first) (4000 * j) (4000 * j + (a .n - 4000 * j))) (c .before .before .block-sampled .ensures) (c .before .if1 .left) in
+    let this = decides-held (c .before .before .block-sampled .result) (SampledWithin b (a .from) (a .first) (4000 * j) (4000 * j + (a .n - 4000 * j))) (c .before .before .block-sampled .ensures) (c .before .if1 .left) in
     let all : SampledWithin b (a .from) (a .first) 0 (a .n) =
     λ p h g. within-join (SampledAt b (a .from) (a .first)) 0 (4000 * j) (4000 * j + (a .n - 4000 * j)) (s .pre .1 .1 .1 .1 .1 .1 .1 .sampled) this p h (omega arith) in
-    says-same (c .words-zero .result) (RestZero b (a .from) (a .m)) (Sampled b (a .from) (a .m) (stringIn b (a .first) 0 (a .n)))
+    decides-same (c .words-zero .result) (RestZero b (a .from) (a .m)) (Sampled b (a .from) (a .m) (stringIn b (a .first) 0 (a .n)))
     (sampled b (a .from) (a .first) (a .n) (a .m) count all) (sampled-rest b (a .from) (a .first) (a .n) (a .m) count) (c .words-zero .ensures)
 
 pub samples-right-spec : {M : Type 1} → statement M

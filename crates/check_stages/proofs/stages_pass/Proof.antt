@@ -4,7 +4,7 @@ use mathlib.Core.Path.{sym, ap, ap₂, _∙_}
 use Prim.Native.Nat.{_+_}
 use native.Mathlib.Omega.{arith}
 use Rattle.theory.specs.Stages.{blocksNeeded}
-use Rattle.image_string.proofs.Saying.{says-held, says-missed}
+use Rattle.image_string.proofs.Saying.{decides-held, decides-missed}
 use Rattle.check_stages.proofs.Passing.{all-pass}
 use Rattle.check_stages.proofs.stages_pass.Statement.{statement}
 use Rattle.check_stages.proofs.stages_pass.Tie as tie
@@ -13,7 +13,7 @@ header-right-requires : tie.Need-header-right-requires
 header-right-requires c κs = search needs
 
 returns : tie.Need-returns
-returns c = λ s. says-missed (c .before .header-right .result) _ (c .before .header-right .ensures) (c .if1 .taken) (s .header)
+returns c = λ s. decides-missed (c .before .header-right .result) _ (c .before .header-right .ensures) (c .if1 .taken) (s .header)
 
 word-requires : tie.Need-word-requires
 word-requires c κs = search needs
@@ -25,23 +25,23 @@ word-requires-2 : tie.Need-word-requires-2
 word-requires-2 c κs = search needs
 
 samples-from-requires : tie.Need-samples-from-requires
-samples-from-requires c κs = let h = says-held (c .before .before .before .header-right .result) _ (c .before .before .before .header-right .ensures) (c .before .before .if1 .left) in omega (arith, h .most)
+samples-from-requires c κs = let h = decides-held (c .before .before .before .header-right .result) _ (c .before .before .before .header-right .ensures) (c .before .before .if1 .left) in omega (arith, h .most)
 
 zeros-from-requires : tie.Need-zeros-from-requires
-zeros-from-requires c κs = let h = says-held (c .before .before .before .before .header-right .result) _ (c .before .before .before .before .header-right .ensures) (c .before .before .before .if1 .left) in omega (arith, h .most)
+zeros-from-requires c κs = let h = decides-held (c .before .before .before .before .header-right .result) _ (c .before .before .before .before .header-right .ensures) (c .before .before .before .if1 .left) in omega (arith, h .most)
 
 cast-sample-blocks : tie.Need-cast-sample-blocks
 cast-sample-blocks c = search needs
 
 sample-blocks-requires : tie.Need-sample-blocks-requires
-sample-blocks-requires c κs = let h = says-held (c .before .before .before .before .before .header-right .result) _ (c .before .before .before .before .before .header-right .ensures) (c .before .before .before .before .if1 .left) in omega (arith, h .most, h .marksMost)
+sample-blocks-requires c κs = let h = decides-held (c .before .before .before .before .before .header-right .result) _ (c .before .before .before .before .before .header-right .ensures) (c .before .before .before .before .if1 .left) in omega (arith, h .most, h .runsMost)
 
 add-strings-pass : tie.Need-add-strings-pass
-add-strings-pass c = let h = says-held (c .before .before .before .before .before .before .header-right .result) _ (c .before .before .before .before .before .before .header-right .ensures) (c .before .before .before .before .before .if1 .left) in omega (arith, h .most, h .marksMost)
+add-strings-pass c = let h = decides-held (c .before .before .before .before .before .before .header-right .result) _ (c .before .before .before .before .before .before .header-right .ensures) (c .before .before .before .before .before .if1 .left) in omega (arith, h .most, h .runsMost)
 
 strings-pass-requires : tie.Need-strings-pass-requires
 strings-pass-requires c κs =
-    let h = says-held (c .before .before .before .before .before .before .header-right .result) _ (c .before .before .before .before .before .before .header-right .ensures) (c .before .before .before .before .before .if1 .left) in
+    let h = decides-held (c .before .before .before .before .before .before .header-right .result) _ (c .before .before .before .before .before .before .header-right .ensures) (c .before .before .before .before .before .if1 .left) in
     let n = c .before .before .before .before .word .ensures in
     let m = c .before .before .before .word2 .ensures in
     let z = c .before .zeros-from .ensures in
@@ -52,7 +52,7 @@ strings-pass-requires c κs =
 
 returns-2 : tie.Need-returns-2
 returns-2 c =
-    let h = says-held (c .before .before .before .before .before .before .before .header-right .result) _ (c .before .before .before .before .before .before .before .header-right .ensures) (c .before .before .before .before .before .before .if1 .left) in
+    let h = decides-held (c .before .before .before .before .before .before .before .header-right .result) _ (c .before .before .before .before .before .before .before .header-right .ensures) (c .before .before .before .before .before .before .if1 .left) in
     let z = c .before .before .zeros-from in
     let s1 = c .before .before .before .samples-from in
     let s0 = s1 .result + c .before .sample-blocks .result in

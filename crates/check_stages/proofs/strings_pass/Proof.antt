@@ -4,7 +4,7 @@ use mathlib.Core.Path.{sym}
 use Prim.Native.Nat.{_+_, _≤_}
 use native.Mathlib.Omega.{arith}
 use Rattle.image_string.proofs.Blanks.{kept-counts}
-use Rattle.image_string.proofs.Saying.{says-held, says-missed, says-same}
+use Rattle.image_string.proofs.Saying.{decides-held, decides-missed, decides-same}
 use Rattle.check_samples.specs.Samples.{BlocksRight}
 use Rattle.check_samples.proofs.Sampling.{blocks-right, placed}
 use Rattle.check_counts.specs.Parts.{StringRight}
@@ -20,7 +20,7 @@ full-blocks-right-requires c κs = (omega arith, (omega arith, (omega arith, (om
 returns : tie.Need-returns
 returns c = λ s.
     let a = c .before .before .before .args in
-    says-missed (c .before .full-blocks-right .result) _ (c .before .full-blocks-right .ensures) (c .if1 .taken)
+    decides-missed (c .before .full-blocks-right .result) _ (c .before .full-blocks-right .ensures) (c .if1 .taken)
     (blocks-right (a .b .now) (a .samples1) 1 (a .n) (a .m) (sym (s .right1 .ended .count)) (kept-counts (a .b .now) 1 (a .n) (omega arith) (s .right1 .kept)) (s .sampled1))
 
 add-full-blocks-right : tie.Need-add-full-blocks-right
@@ -32,7 +32,7 @@ full-blocks-right-requires-2 c κs = (omega arith, (omega arith, (omega arith, (
 returns-2 : tie.Need-returns-2
 returns-2 c = λ s.
     let a = c .before .before .before .before .before .args in
-    says-missed (c .before .full-blocks-right2 .result) _ (c .before .full-blocks-right2 .ensures) (c .if2 .taken)
+    decides-missed (c .before .full-blocks-right2 .result) _ (c .before .full-blocks-right2 .ensures) (c .if2 .taken)
     (blocks-right (a .b .now) (a .samples0) (a .zeros) (a .n + 1) (a .m) (sym (s .right0 .ended .count)) (kept-counts (a .b .now) (a .zeros) (a .n + 1) (omega arith) (s .right0 .kept)) (s .sampled0))
 
 -- what the first two tests tell
@@ -41,16 +41,16 @@ module _ (c : tie.Else2) where
   begun = c .before .before .before .before .before
 
   blocks1 : BlocksRight (begun .args .b .now) (begun .args .samples1) (begun .args .m) 1 (begun .args .n)
-  blocks1 = says-held (c .before .before .before .full-blocks-right .result) _ (c .before .before .before .full-blocks-right .ensures) (c .before .before .if1 .left)
+  blocks1 = decides-held (c .before .before .before .full-blocks-right .result) _ (c .before .before .before .full-blocks-right .ensures) (c .before .before .if1 .left)
 
   blocks0 : BlocksRight (begun .args .b .now) (begun .args .samples0) (begun .args .m) (begun .args .zeros) (begun .args .n + 1)
-  blocks0 = says-held (c .before .full-blocks-right2 .result) _ (c .before .full-blocks-right2 .ensures) (c .if2 .left)
+  blocks0 = decides-held (c .before .full-blocks-right2 .result) _ (c .before .full-blocks-right2 .ensures) (c .if2 .left)
 
 string-right-requires : tie.Need-string-right-requires
 string-right-requires c κs = (omega arith, (omega arith, (omega arith, (omega arith, blocks1 c .counted))))
 
 returns-3 : tie.Need-returns-3
-returns-3 c = λ s. says-missed (c .before .string-right .result) _ (c .before .string-right .ensures) (c .if3 .taken) (s .right1)
+returns-3 c = λ s. decides-missed (c .before .string-right .result) _ (c .before .string-right .ensures) (c .if3 .taken) (s .right1)
 
 add-string-right : tie.Need-add-string-right
 add-string-right c = search needs
@@ -59,26 +59,26 @@ string-right-requires-2 : tie.Need-string-right-requires-2
 string-right-requires-2 c κs = (omega arith, (omega arith, (omega arith, (omega arith, blocks0 (c .before .before) .counted))))
 
 returns-4 : tie.Need-returns-4
-returns-4 c = λ s. says-missed (c .before .string-right2 .result) _ (c .before .string-right2 .ensures) (c .if4 .taken) (s .right0)
+returns-4 c = λ s. decides-missed (c .before .string-right2 .result) _ (c .before .string-right2 .ensures) (c .if4 .taken) (s .right0)
 
 samples-right-requires : tie.Need-samples-right-requires
 samples-right-requires c κs =
-    let right1 = says-held (c .before .before .before .string-right .result) _ (c .before .before .before .string-right .ensures) (c .before .before .if3 .left) in
+    let right1 = decides-held (c .before .before .before .string-right .result) _ (c .before .before .before .string-right .ensures) (c .before .before .if3 .left) in
     (omega arith, (omega arith, (sym (right1 .ended .count), (omega arith, (omega arith, (omega arith, (omega arith, blocks1 (c .before .before .before .before))))))))
 
 returns-5 : tie.Need-returns-5
-returns-5 c = λ s. says-missed (c .before .samples-right .result) _ (c .before .samples-right .ensures) (c .if5 .taken) (s .sampled1)
+returns-5 c = λ s. decides-missed (c .before .samples-right .result) _ (c .before .samples-right .ensures) (c .if5 .taken) (s .sampled1)
 
 add-samples-right : tie.Need-add-samples-right
 add-samples-right c = search needs
 
 samples-right-requires-2 : tie.Need-samples-right-requires-2
 samples-right-requires-2 c κs =
-    let right0 = says-held (c .before .before .before .string-right2 .result) _ (c .before .before .before .string-right2 .ensures) (c .before .before .if4 .left) in
+    let right0 = decides-held (c .before .before .before .string-right2 .result) _ (c .before .before .before .string-right2 .ensures) (c .before .before .if4 .left) in
     (omega arith, (omega arith, (sym (right0 .ended .count), (omega arith, (omega arith, (omega arith, (omega arith, blocks0 (c .before .before .before .before .before .before))))))))
 
 returns-6 : tie.Need-returns-6
-returns-6 c = λ s. says-missed (c .before .samples-right2 .result) _ (c .before .samples-right2 .ensures) (c .if6 .taken) (s .sampled0)
+returns-6 c = λ s. decides-missed (c .before .samples-right2 .result) _ (c .before .samples-right2 .ensures) (c .if6 .taken) (s .sampled0)
 
 -- all but the runs
 module _ (c : tie.Else6) where
@@ -86,16 +86,16 @@ module _ (c : tie.Else6) where
   start = c .before .before .before .before .before .before .before .before .before .before .before .before .before
 
   right1 : StringRight (start .args .b .now) 1 (start .args .n) (start .args .m)
-  right1 = says-held (c .before .before .before .before .before .before .before .string-right .result) _ (c .before .before .before .before .before .before .before .string-right .ensures) (c .before .before .before .before .before .before .if3 .left)
+  right1 = decides-held (c .before .before .before .before .before .before .before .string-right .result) _ (c .before .before .before .before .before .before .before .string-right .ensures) (c .before .before .before .before .before .before .if3 .left)
 
   right0 : StringRight (start .args .b .now) (start .args .zeros) (start .args .n + 1) (start .args .m)
-  right0 = says-held (c .before .before .before .before .before .string-right2 .result) _ (c .before .before .before .before .before .string-right2 .ensures) (c .before .before .before .before .if4 .left)
+  right0 = decides-held (c .before .before .before .before .before .string-right2 .result) _ (c .before .before .before .before .before .string-right2 .ensures) (c .before .before .before .before .if4 .left)
 
   sampled1 : Sampled (start .args .b .now) (start .args .samples1) (start .args .m) (stringIn (start .args .b .now) 1 0 (start .args .n))
-  sampled1 = says-held (c .before .before .before .samples-right .result) _ (c .before .before .before .samples-right .ensures) (c .before .before .if5 .left)
+  sampled1 = decides-held (c .before .before .before .samples-right .result) _ (c .before .before .before .samples-right .ensures) (c .before .before .if5 .left)
 
   sampled0 : Sampled (start .args .b .now) (start .args .samples0) (start .args .m) (stringIn (start .args .b .now) (start .args .zeros) 0 (start .args .n + 1))
-  sampled0 = says-held (c .before .samples-right2 .result) _ (c .before .samples-right2 .ensures) (c .if6 .left)
+  sampled0 = decides-held (c .before .samples-right2 .result) _ (c .before .samples-right2 .ensures) (c .if6 .left)
 
 in-step-requires : tie.Need-in-step-requires
 in-step-requires c κs =
@@ -142,7 +142,7 @@ in-step-requires c κs =
 returns-7 : tie.Need-returns-7
 returns-7 c =
     let d = c .before in
-    says-same (c .in-step .result) _ _ (λ s. record { right1 = right1 d; right0 = right0 d; inStep = s; sampled1 = sampled1 d; sampled0 = sampled0 d }) (λ s. s .inStep) (c .in-step .ensures)
+    decides-same (c .in-step .result) _ _ (λ s. record { right1 = right1 d; right0 = right0 d; inStep = s; sampled1 = sampled1 d; sampled0 = sampled0 d }) (λ s. s .inStep) (c .in-step .ensures)
 
 pub strings-pass-spec : {M : Type 1} → statement M
 strings-pass-spec =

@@ -5,10 +5,10 @@ use Prim.Native.Nat.{ℕ, suc, _+_, _-_, _≤_, _<_}
 use native.Mathlib.Omega.{arith}
 use lib.ListN.{length, getD, set, take, drop, length-set, length-take, length-drop}
 use Rattle.theory.specs.Stages.{nodesOf}
-use Rattle.image_found.specs.Checked.{imageIn}
-use Rattle.bit.proofs.Values.{value-le}
+use Rattle.image_found.specs.Checked.{layoutIn}
+use Rattle.bits_byte.proofs.Values.{value-le}
 use Rattle.list_measure.specs.Levels.{low, below}
-use Rattle.list_measure.specs.Cursors.{Ready}
+use Rattle.list_measure.specs.Cursors.{CursorsReady}
 use Rattle.list_measure.proofs.Numbers.{low-most, most-nodes, child-mark, last-mark}
 use Rattle.list_write.specs.Writing.{NodeIn, pairsOf, Listed}
 use Rattle.list_write.proofs.Cursors.{next-child}
@@ -53,7 +53,7 @@ own : (t : ℕ) (s : list-node-lts.Start (claims t) (list-node-at t) list-node.P
 own t s =
     let b = s .args .b .now in
     let p = s .pre .1 in
-    let e = ap length (listing-step b (imageIn b) (p .node .sound) (s .args .left) (s .args .x) (p .some) (p .most)) in
+    let e = ap length (listing-step b (layoutIn b) (p .node .sound) (s .args .left) (s .args .x) (p .some) (p .most)) in
     let room = p .room in
     let same : length (fronted t s) ≡ length (s .args .out .now) = simp length-set in
     (omega arith, same, omega arith)
@@ -79,13 +79,13 @@ loop-holds t c =
     let a = s .args in
     let b = a .b .now in
     let p = s .pre .1 in
-    let r = child-mark b (imageIn b) (p .node .sound) (a .x) (c .has-child .result) (p .node .some) (p .node .most) (c .has-child .ensures) in
+    let r = child-mark b (layoutIn b) (p .node .sound) (a .x) (c .has-child .result) (p .node .some) (p .node .most) (c .has-child .ensures) in
     let bit = value-le _ _ (c .has-child .ensures) in (
       low b (a .x),
       record {
         w = a .x ∷ (64 - a .left) ∷ [];
         front = pair-put (a .x) (64 - a .left) (a .out .now) (own t s .0);
-        whole = sym (listing-step b (imageIn b) (p .node .sound) (a .left) (a .x) (p .some) (p .most));
+        whole = sym (listing-step b (layoutIn b) (p .node .sound) (a .left) (a .x) (p .some) (p .most));
         many = refl;
         from = omega arith;
         count = p .count;
@@ -103,7 +103,7 @@ record Next (b : List ℕ) (x left : ℕ) (cs₀ out₀ cs out : List ℕ) (fill
   level : 65 - left < 64
   node : NodeIn b (getD cs (65 - left) 0 + 1)
   most : nodesOf b ≤ 65535
-  ready : Ready (below b) (drop (suc (65 - left)) (set cs (65 - left) (getD cs (65 - left) 0 + 1))) (low b (getD cs (65 - left) 0 + 1)) (low b (getD cs (65 - left) 0 + 1 + 1))
+  ready : CursorsReady (below b) (drop (suc (65 - left)) (set cs (65 - left) (getD cs (65 - left) 0 + 1))) (low b (getD cs (65 - left) 0 + 1)) (low b (getD cs (65 - left) 0 + 1 + 1))
   some : 2 ≤ length (pairsOf b (left - 1) (getD cs (65 - left) 0 + 1))
   room : (length out ≡ length out₀) × (filled + length (pairsOf b (left - 1) (getD cs (65 - left) 0 + 1)) ≤ length out₀)
 
@@ -121,19 +121,19 @@ child t c =
     let i = l .inv in
     let e = 65 - a .left in
     let at = i .2 (c .loop-test .taken) in
-    let r = next-child b (imageIn b) f (a .x) e (a .cursors .now) (l .cursors) (i .0) at (i .1 .along) (p .ready) in
+    let r = next-child b (layoutIn b) f (a .x) e (a .cursors .now) (l .cursors) (i .0) at (i .1 .along) (p .ready) in
     let here = r .1 in
     let count = i .1 .count in
     let going = subst (λ k. Going b (a .x) (a .left) (a .cursors .now) (fronted t s) (l .cursors) (l .out) (l .filled) k) (sym here) (i .1) in
     let more : getD (l .cursors) e 0 < low b (a .x + 1) = omega arith in
-    let pair = ap length (listing-step b (imageIn b) f (a .left - 1) (getD (l .cursors) e 0 + 1) (omega arith) (omega arith)) in
+    let pair = ap length (listing-step b (layoutIn b) f (a .left - 1) (getD (l .cursors) e 0 + 1) (omega arith) (omega arith)) in
     record {
       going = going;
       more = more;
       level = omega arith;
-      node = record { sound = f; some = omega arith; most = omega (arith, low-most b (imageIn b) f (a .x + 1)) };
-      most = most-nodes b (imageIn b) f;
-      ready = subst (λ k. Ready (below b) (drop (suc e) (set (l .cursors) e (k + 1))) (low b (k + 1)) (low b (k + 1 + 1))) (sym here) (r .2);
+      node = record { sound = f; some = omega arith; most = omega (arith, low-most b (layoutIn b) f (a .x + 1)) };
+      most = most-nodes b (layoutIn b) f;
+      ready = subst (λ k. CursorsReady (below b) (drop (suc e) (set (l .cursors) e (k + 1))) (low b (k + 1)) (low b (k + 1 + 1))) (sym here) (r .2);
       some = omega arith;
       room = going-room b (a .x) (a .left) (a .cursors .now) (fronted t s) (l .cursors) (l .out) (l .filled) (getD (l .cursors) e 0) going more (own t s .2);
     }
@@ -232,9 +232,9 @@ loop-again t c =
     let more = r .more in
     let from = r .going .from in
     let bit = value-le _ _ (c .is-last .ensures) in
-    let last = last-mark b (imageIn b) f (a .x) (y + 1) (c .is-last .result) (omega arith) (omega arith) (c .is-last .ensures) in (
+    let last = last-mark b (layoutIn b) f (a .x) (y + 1) (c .is-last .result) (omega arith) (omega arith) (c .is-last .ensures) in (
       y + 1,
-      going-more b (a .x) (a .left) (a .cursors .now) (fronted t s) (l .cursors) (l .out) (l .filled) y (r .going) (r .more) (own t s .2) (imageIn b) f (omega arith) (omega arith) _ _ _ _ refl (listed t (c .before .before .before)),
+      going-more b (a .x) (a .left) (a .cursors .now) (fronted t s) (l .cursors) (l .out) (l .filled) y (r .going) (r .more) (own t s .2) (layoutIn b) f (omega arith) (omega arith) _ _ _ _ refl (listed t (c .before .before .before)),
       λ one. last .0 (omega arith),
       λ none. last .1 (λ z. none (omega arith)),
     )
@@ -257,13 +257,13 @@ returns t c =
     let i = l .inv in
     let none = i .3 (c .loop-test .left) in
     let all = going-all b (a .x) (a .left) (a .cursors .now) (fronted t s) (l .cursors) (l .out) (l .filled) (i .0) (i .1) (omega arith) in
-    let pairs = listing-step b (imageIn b) (p .node .sound) (a .left) (a .x) (p .some) (p .most) in
+    let pairs = listing-step b (layoutIn b) (p .node .sound) (a .left) (a .x) (p .some) (p .most) in
     record {
       pairs = all .0 ∙ pair-first (a .x) (64 - a .left) (pairsOf b (a .left) (a .x)) _ (a .out .now) pairs (own t s .0);
       many = all .1;
       count = i .1 .count;
       above = i .1 .above;
-      moved = λ y h r. subst (λ k. Ready (below b) (drop (65 - a .left) (l .cursors)) k (low b y)) none (i .1 .along y h r);
+      moved = λ y h r. subst (λ k. CursorsReady (below b) (drop (65 - a .left) (l .cursors)) k (low b y)) none (i .1 .along y h r);
     }
 
 same-length : (t : ℕ) → list-node-lts.Need-same-length (claims t) (list-node-at t) list-node.Post Inv μ

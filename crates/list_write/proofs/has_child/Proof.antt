@@ -4,7 +4,7 @@ use Prim.Native.Nat.{_-_}
 use native.Mathlib.Omega.{arith}
 use Rattle.meaning.specs.Bytes.{bitAt, value}
 use Rattle.theory.specs.Layout.{bitPlace}
-use Rattle.image_found.specs.Checked.{imageIn}
+use Rattle.image_found.specs.Checked.{layoutIn}
 use Rattle.nav_strings.proofs.Strings.{ready0}
 use Rattle.nav_sibling_range.proofs.Own.{bit0}
 use borrow.Author.Needs.{needs}
@@ -19,7 +19,7 @@ string-bit-requires c κs =
     let s = c .before in
     let b = s .args .b .now in
     let n = s .pre .0 in
-    let r = ready0 b (imageIn b) (n .sound) in
+    let r = ready0 b (layoutIn b) (n .sound) in
     let begins = s .pre .1 in
     (omega (arith, n .some, n .most, r .most), (omega (arith, r .near), omega (arith, n .some, n .most, r .room)))
 
@@ -28,7 +28,7 @@ returns c =
     let s = c .before .before in
     let b = s .args .b .now in
     let n = s .pre .0 in
-    bit0 b (imageIn b) (n .sound) (s .args .x) (c .string-bit .result) (n .some) (n .most)
+    bit0 b (layoutIn b) (n .sound) (s .args .x) (c .string-bit .result) (n .some) (n .most)
     (c .string-bit .ensures ∙ ap (λ z. value (bitAt b (bitPlace z (s .args .x - 1)))) (s .pre .1))
 
 pub has-child-spec : {M : Type 1} → statement M

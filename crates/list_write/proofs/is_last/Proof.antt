@@ -1,6 +1,6 @@
 -- `list_write::is_last` meets its contract.
 use native.Mathlib.Omega.{arith}
-use Rattle.image_found.specs.Checked.{imageIn}
+use Rattle.image_found.specs.Checked.{layoutIn}
 use Rattle.nav_strings.proofs.Strings.{ready1}
 use Rattle.nav_sibling_range.proofs.Own.{bit1}
 use borrow.Author.Needs.{needs}
@@ -15,7 +15,7 @@ string-bit-requires c κs =
     let s = c .before in
     let b = s .args .b .now in
     let n = s .pre in
-    let r = ready1 b (imageIn b) (n .sound) in
+    let r = ready1 b (layoutIn b) (n .sound) in
     (omega (arith, n .some, n .most, r .most), (omega arith, omega (arith, n .some, n .most, r .room)))
 
 returns : tie.Need-returns
@@ -23,7 +23,7 @@ returns c =
     let s = c .before .before in
     let b = s .args .b .now in
     let n = s .pre in
-    bit1 b (imageIn b) (n .sound) (s .args .x) (c .string-bit .result) (n .some) (n .most) (c .string-bit .ensures)
+    bit1 b (layoutIn b) (n .sound) (s .args .x) (c .string-bit .result) (n .some) (n .most) (c .string-bit .ensures)
 
 pub is-last-spec : {M : Type 1} → statement M
 is-last-spec = tie.close (tie.spec sub-string-bit string-bit-requires returns)

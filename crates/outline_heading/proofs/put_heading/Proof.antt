@@ -10,25 +10,25 @@ slice-aggregate-put-field : tie.Need-slice-aggregate-put-field
 slice-aggregate-put-field c = search needs
 
 put-field-requires : tie.Need-put-field-requires
-put-field-requires c κs = let i = c .before .before .before .args .image in omega (arith, heading-size (i .nodes) (i .marks) (i .blocks))
+put-field-requires c κs = let i = c .before .before .before .args .image in omega (arith, heading-size (i .nodes) (i .runs) (i .blocks))
 
 slice-aggregate-put-field-2 : tie.Need-slice-aggregate-put-field-2
 slice-aggregate-put-field-2 c = search needs
 
 put-field-requires-2 : tie.Need-put-field-requires-2
-put-field-requires-2 c κs = let i = c .before .before .before .before .before .before .before .before .args .image in omega (arith, heading-size (i .nodes) (i .marks) (i .blocks))
+put-field-requires-2 c κs = let i = c .before .before .before .before .before .before .before .before .args .image in omega (arith, heading-size (i .nodes) (i .runs) (i .blocks))
 
 slice-aggregate-put-field-3 : tie.Need-slice-aggregate-put-field-3
 slice-aggregate-put-field-3 c = search needs
 
 put-field-requires-3 : tie.Need-put-field-requires-3
-put-field-requires-3 c κs = let i = c .before .before .before .before .before .before .before .before .before .before .before .before .before .args .image in omega (arith, heading-size (i .nodes) (i .marks) (i .blocks))
+put-field-requires-3 c κs = let i = c .before .before .before .before .before .before .before .before .before .before .before .before .before .args .image in omega (arith, heading-size (i .nodes) (i .runs) (i .blocks))
 
 slice-aggregate-put : tie.Need-slice-aggregate-put
 slice-aggregate-put c = search needs
 
 put-requires : tie.Need-put-requires
-put-requires c κs = let i = c .before .before .before .before .before .before .before .before .before .before .before .before .before .before .before .before .before .before .args .image in omega (arith, heading-size (i .nodes) (i .marks) (i .blocks))
+put-requires c κs = let i = c .before .before .before .before .before .before .before .before .before .before .before .before .before .before .before .before .before .before .args .image in omega (arith, heading-size (i .nodes) (i .runs) (i .blocks))
 
 same-length : tie.Need-same-length
 same-length c = search needs
@@ -40,7 +40,7 @@ returns c =
     let r = q .before .before .before .before .before in
     let o = r .before .before .before .before .before in
     let i = o .before .before .before .before .args .image in
-    put-as (heading-pieces (i .nodes) (i .marks) (i .blocks))
+    put-as (heading-pieces (i .nodes) (i .runs) (i .blocks))
     (both-put (o .put-field .ensures) (both-put (r .put-field2 .ensures) (both-put (q .put-field3 .ensures) (p .put .ensures))))
 
 pub put-heading-spec : {M : Type 1} → statement M

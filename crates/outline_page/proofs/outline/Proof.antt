@@ -29,8 +29,8 @@ listed c =
     outline-listed (a .b .now) (k .before .found .given .0 .0) (sound k) (omega arith) (a .pairs .now) (omega arith) _ _ (c .list .ensures)
 
 -- the heading is short
-short : (c : tie.After-known-told) → let i = c .before .found .given .0 .0 in length (heading (i .nodes) (i .marks) (i .blocks)) ≤ 44
-short c = let i = c .before .found .given .0 .0 in heading-most (i .nodes) (i .marks) (i .blocks) (omega arith) (omega arith) (omega arith)
+short : (c : tie.After-known-told) → let i = c .before .found .given .0 .0 in length (heading (i .nodes) (i .runs) (i .blocks)) ≤ 44
+short c = let i = c .before .found .given .0 .0 in heading-most (i .nodes) (i .runs) (i .blocks) (omega arith) (omega arith) (omega arith)
 
 -- there is room for the lines of its nodes
 room : (c : tie.Else2)
@@ -55,11 +55,11 @@ enum-known-found c = search needs
 enum-told : tie.Need-enum-told
 enum-told c = search needs
 
-refusal-of-requires : tie.Need-refusal-of-requires
-refusal-of-requires c κs = search needs
+answer-of-requires : tie.Need-answer-of-requires
+answer-of-requires c κs = search needs
 
 put-refusal-requires : tie.Need-put-refusal-requires
-put-refusal-requires c κs = let a = c .refusal-of .result in omega (arith, refusal-most a (omega arith) (omega arith))
+put-refusal-requires c κs = let a = c .answer-of .result in omega (arith, refusal-most a (omega arith) (omega arith))
 
 same-length : tie.Need-same-length
 same-length c = search needs
@@ -67,12 +67,12 @@ same-length c = search needs
 returns : tie.Need-returns
 returns c =
     let p = c .before .before in
-    let o = p .before .refusal-of in
+    let o = p .before .answer-of in
     let told = p .before .before .before .enum-told .given .1 in
     let k = p .before .before .before .before .before in
     let a = k .before .before .before .before .args in
     put-outline (a .b .now) (refusal (o .result))
-    (outline-refused (a .b .now) _ _ (sym (k .check .ensures) ∙ told) ∙ ap refusal (sym (o .ensures ∙ ap answered told)))
+    (outline-refused (a .b .now) _ (sym (k .check .ensures) ∙ told) ∙ ap refusal (sym (o .ensures ∙ ap answered told)))
     (p .put-refusal .ensures)
     (omega (arith, refusal-most (o .result) (omega arith) (omega arith)))
 
@@ -159,7 +159,7 @@ outline-spec =
     check-requires
     enum-known-found
     enum-told
-    refusal-of-requires
+    answer-of-requires
     put-refusal-requires
     same-length
     returns

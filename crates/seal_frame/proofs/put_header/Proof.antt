@@ -23,7 +23,12 @@ same-length c = search needs
 
 returns : tie.Need-returns
 unfolding headed
-returns c = let a = c .before .before .before .before .before .before .before .before .before .before .before .before .before .before .before .before .before .args in c .before .before .put-word4 .ensures ∙ ap (λ s. withWord s 12 (a .blocks)) (c .before .before .before .before .before .before .put-word3 .ensures ∙ ap (λ s. withWord s 8 (a .m)) (c .before .before .before .before .before .before .before .before .before .before .put-word2 .ensures ∙ ap (λ s. withWord s 4 (a .n)) (c .before .before .before .before .before .before .before .before .before .before .before .before .before .before .put-word .ensures)))
+returns c =
+    let first = c .before .before .before .before .before .before .before .before .before .before .before .before .before .before in
+    let a = first .before .before .before .args in
+    let nodes = c .before .before .before .before .before .before .before .before .before .before .put-word2 .ensures ∙ ap (λ s. withWord s 4 (a .layout .nodes)) (first .put-word .ensures) in
+    let runs = c .before .before .before .before .before .before .put-word3 .ensures ∙ ap (λ s. withWord s 8 (a .layout .runs)) nodes in
+    c .before .before .put-word4 .ensures ∙ ap (λ s. withWord s 12 (a .layout .blocks)) runs
 
 pub put-header-spec : {M : Type 1} → statement M
 put-header-spec =

@@ -36,13 +36,13 @@ tree-holds c = (omega arith, refl, open-first _ _ _ _ _ _ refl refl refl)
 add-if2 : tie.Need-add-if2 Inv-loop μ-loop Inv-tree μ-tree
 add-if2 c = search needs
 
-over-words-requires : tie.Need-over-words-requires Inv-loop μ-loop Inv-tree μ-tree
-over-words-requires c κs =
+skip-words-requires : tie.Need-skip-words-requires Inv-loop μ-loop Inv-tree μ-tree
+skip-words-requires c κs =
     let t = c .before .before .before in
     (record { within = omega arith; few = open-few _ _ _ _ _ _ (t .tree .inv .2) (c .if2 .taken) }, (omega arith, omega arith))
 
-over-bytes-requires : tie.Need-over-bytes-requires Inv-loop μ-loop Inv-tree μ-tree
-over-bytes-requires c κs = search needs
+skip-bytes-requires : tie.Need-skip-bytes-requires Inv-loop μ-loop Inv-tree μ-tree
+skip-bytes-requires c κs = search needs
 
 mul-if3 : tie.Need-mul-if3 Inv-loop μ-loop Inv-tree μ-tree
 mul-if3 c = search needs
@@ -56,12 +56,12 @@ tree-less c = search needs
 tree-again : tie.Need-tree-again Inv-loop μ-loop Inv-tree μ-tree
 tree-again c =
     let d = c .before .before .before in
-    let s = d .over-bytes .ensures in
+    let s = d .skip-bytes .ensures in
     let then = d .before .before in
     let i = then .before .before .before .tree .inv in (
       s .stands .within,
       i .1,
-      open-skip _ _ _ _ _ _ (i .2) _ _ _ (then .if2 .taken) (omega arith) (s .stands .few) (all-at-once _ _ _ _ _ (then .before .if1 .taken) (d .before .over-words .ensures) s),
+      open-skip _ _ _ _ _ _ (i .2) _ _ _ (then .if2 .taken) (omega arith) (s .stands .few) (all-at-once _ _ _ _ _ (then .before .if1 .taken) (d .before .skip-words .ensures) s),
     )
 
 shared-slice-read-byte : tie.Need-shared-slice-read-byte Inv-loop μ-loop Inv-tree μ-tree
@@ -177,8 +177,8 @@ tree-end-by-spec =
     add-t14
     tree-holds
     add-if2
-    over-words-requires
-    over-bytes-requires
+    skip-words-requires
+    skip-bytes-requires
     mul-if3
     mul-p
     tree-less

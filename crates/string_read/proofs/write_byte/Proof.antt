@@ -1,7 +1,7 @@
 -- `string_read::write_byte` meets its contract.
 use Prim.Native.Nat.{_-_}
 use native.Mathlib.Omega.{arith}
-use Rattle.bit.proofs.Values.{value-le}
+use Rattle.bits_byte.proofs.Values.{value-le}
 use Rattle.string_read.proofs.Writing.{Entering, entering-first, entering-next, entering-last}
 use Rattle.string_read.proofs.write_byte.Statement.{statement}
 use Rattle.string_read.proofs.write_byte.Tie as tie

@@ -3,7 +3,7 @@ use Prim.Native.Nat.{_-_, _*_}
 use mathlib.Core.Path.{_∙_}
 use borrow.Author.Needs.{needs}
 use native.Mathlib.Omega.{arith}
-use Rattle.bit.proofs.Values.{value-le}
+use Rattle.bits_byte.proofs.Values.{value-le}
 use Rattle.string_read.proofs.Writing.{Kept, kept-first, kept-next, kept-byte, byte-more, kept-again, kept-last, more}
 use Rattle.string_read.proofs.write_parents.Statement.{statement}
 use Rattle.string_read.proofs.write_parents.Tie as tie
@@ -66,11 +66,11 @@ slice-write-out c = omega arith
 bit-at-requires : tie.Need-bit-at-requires Inv-loop μ-loop Inv-loop2 μ-loop2
 bit-at-requires c κs = let l = more _ _ _ _ _ _ _ (c .before .loop2 .inv) (c .loop2-test .taken) in omega arith
 
-count-requires : tie.Need-count-requires Inv-loop μ-loop Inv-loop2 μ-loop2
-count-requires c κs = search needs
+wide-byte-requires : tie.Need-wide-byte-requires Inv-loop μ-loop Inv-loop2 μ-loop2
+wide-byte-requires c κs = search needs
 
 add-k : tie.Need-add-k Inv-loop μ-loop Inv-loop2 μ-loop2
-add-k c = let l = more _ _ _ _ _ _ _ (c .before .before .before .loop2 .inv) (c .before .before .loop2-test .taken) in omega (arith, value-le _ _ (c .before .bit-at .ensures), c .count .ensures)
+add-k c = let l = more _ _ _ _ _ _ _ (c .before .before .before .loop2 .inv) (c .before .before .loop2-test .taken) in omega (arith, value-le _ _ (c .before .bit-at .ensures), c .wide-byte .ensures)
 
 add-p : tie.Need-add-p Inv-loop μ-loop Inv-loop2 μ-loop2
 add-p c = let l = more _ _ _ _ _ _ _ (c .before .before .before .loop2 .inv) (c .before .before .loop2-test .taken) in omega arith
@@ -79,7 +79,7 @@ loop2-less : tie.Need-loop2-less Inv-loop μ-loop Inv-loop2 μ-loop2
 loop2-less c = let l = more _ _ _ _ _ _ _ (c .before .before .before .loop2 .inv) (c .before .before .loop2-test .taken) in omega arith
 
 loop2-again : tie.Need-loop2-again Inv-loop μ-loop Inv-loop2 μ-loop2
-loop2-again c = kept-next _ _ _ _ _ _ _ (c .before .before .before .loop2 .inv) (c .before .before .loop2-test .taken) _ (c .count .ensures ∙ c .before .bit-at .ensures) (omega (arith, c .before .before .before .before .before .loop .inv .size))
+loop2-again c = kept-next _ _ _ _ _ _ _ (c .before .before .before .loop2 .inv) (c .before .before .loop2-test .taken) _ (c .wide-byte .ensures ∙ c .before .bit-at .ensures) (omega (arith, c .before .before .before .before .before .loop .inv .size))
 
 same-length : tie.Need-same-length Inv-loop μ-loop Inv-loop2 μ-loop2
 same-length c = c .before .loop2 .inv .size ∙ c .before .before .before .loop .inv .size
@@ -110,7 +110,7 @@ write-parents-spec =
     mul-out
     slice-write-out
     bit-at-requires
-    count-requires
+    wide-byte-requires
     add-k
     add-p
     loop2-less

@@ -5,7 +5,7 @@ use native.Mathlib.Omega.{arith}
 use lib.ListN.{getD, length-set}
 use Rattle.meaning.specs.Bytes.{bitAt, bitsFrom}
 use Rattle.theory.proofs.Packing.{bits-length}
-use Rattle.bit.proofs.Values.{value-le}
+use Rattle.bits_byte.proofs.Values.{value-le}
 use Rattle.unseal_byte.proofs.Pieces.{bit-piece}
 use Rattle.unseal_parents.proofs.Spreading.{spread-bit, Up, up-first, up-next, up-done}
 use Rattle.unseal_parents.proofs.spread_byte.Statement.{statement}

@@ -12,8 +12,8 @@ use Rattle.unseal_parents.proofs.Weaving.{lasts, parents-written}
 use Rattle.unseal_parents.proofs.write_parents.Statement.{statement}
 use Rattle.unseal_parents.proofs.write_parents.Tie as tie
 
-place-string-requires : tie.Need-place-string-requires
-place-string-requires c κs =
+write-string-positions-requires : tie.Need-write-string-positions-requires
+write-string-positions-requires c κs =
     let a = c .before .before .before .args in
     let h = lasts (a .b .now) (a .zeros) (a .n) (c .before .before .before .pre .1 .1 .1 .0) in
     (omega arith, (omega arith, (omega arith, (omega arith, omega arith))))
@@ -22,7 +22,7 @@ sub-root : tie.Need-sub-root
 sub-root c =
     let a = c .before .before .before .before .before .before .args in
     let h = lasts (a .b .now) (a .zeros) (a .n) (c .before .before .before .before .before .before .pre .1 .1 .1 .0) in
-    omega (arith, c .before .before .place-string .ensures .count)
+    omega (arith, c .before .before .write-string-positions .ensures .count)
 
 mul-out : tie.Need-mul-out
 mul-out c = search needs
@@ -31,7 +31,7 @@ slice-write-out : tie.Need-slice-write-out
 slice-write-out c =
     let a = c .before .before .before .before .before .before .args in
     let h = lasts (a .b .now) (a .zeros) (a .n) (c .before .before .before .before .before .before .pre .1 .1 .1 .0) in
-    omega (arith, c .before .before .place-string .ensures .count, c .before .before .place-string .kept .1 .1 .1 .0)
+    omega (arith, c .before .before .write-string-positions .ensures .count, c .before .before .write-string-positions .kept .1 .1 .1 .0)
 
 sub-spread-string : tie.Need-sub-spread-string
 sub-spread-string c =
@@ -42,19 +42,19 @@ sub-spread-string c =
 spread-string-requires : tie.Need-spread-string-requires
 spread-string-requires c κs =
     let a = c .before .before .before .before .before .before .before .args in
-    let f = c .before .before .before .place-string in
+    let f = c .before .before .before .write-string-positions in
     let h = lasts (a .b .now) (a .zeros) (a .n) (c .before .before .before .before .before .before .before .pre .1 .1 .1 .0) in
     (omega arith, (omega arith, (omega (arith, f .ensures .count), simp length-set (omega (arith, f .ensures .count, f .kept .1 .1 .1 .0)))))
 
 same-length : tie.Need-same-length
 same-length c =
-    let f = c .before .before .before .before .before .before .place-string in
+    let f = c .before .before .before .before .before .before .write-string-positions in
     c .before .before .spread-string .kept .1 .1 .1 .0 ∙ simp length-set (f .kept .1 .1 .1 .0)
 
 returns : tie.Need-returns
 returns c =
     let a = c .before .before .before .before .before .before .before .before .before .before .args in
-    let f = c .before .before .before .before .before .before .place-string in
+    let f = c .before .before .before .before .before .before .write-string-positions in
     let b = a .b .now in
     let h = lasts b (a .zeros) (a .n) (c .before .before .before .before .before .before .before .before .before .before .pre .1 .1 .1 .0) in
     let l = length-stringIn b 1 0 (a .n - 1) in
@@ -65,7 +65,7 @@ pub write-parents-spec : {M : Type 1} → statement M
 write-parents-spec =
     tie.close
     (tie.spec
-    place-string-requires
+    write-string-positions-requires
     sub-root
     mul-out
     slice-write-out

@@ -1,0 +1,125 @@
+-- Document 01's cases, "Twelve checked by hand", with its traps and cheap limits: a call, its inputs, and what comes back, lent lists included.
+use mathlib.Core.List.{List, [], _∷_, _++_}
+use Prim.Native.Nat.{ℕ, zero, suc, _*_, _-_}
+use lib.IntN.{ℤ, pos, negsuc}
+use lib.ListN.{length, replicate}
+use Rattle.meaning.specs.declared.Answer.{Answer}
+use Rattle.meaning.specs.Strings.{stringOf}
+use Rattle.meaning.specs.Blocks.{le32, wordBytes}
+use Rattle.meaning.specs.Image.{imageOfString}
+use Rattle.meaning.specs.Answers.{refusedWith, counts}
+use Rattle.calls.specs.Calls.{Call, string-of-parents, parents-of-string, image-of-parents, parents-of-image, check-image, ask, list, split, join, Back}
+
+pub record Case : Type 0 where
+  pub call : Call
+  pub back : Back
+
+infix 68 _gives_with_
+abbrev _gives_with_ : Call → Answer → List (List ℕ) → Case
+c gives a with lists = record { call = c; back = record { answer = a; lent = lists } }
+
+-- code and place
+infix 70 code_place_
+abbrev code_place_ : ℕ → ℕ → Answer
+code c place p = refusedWith c p
+
+-- ---- What the rows speak of.
+
+-- numbers that a call must leave alone, or write over
+abbrev room : ℕ → List ℕ
+room n = replicate n 9
+
+-- a block whose payload begins with these words, with its s and t
+abbrev block : List ℕ → ℕ → ℕ → List ℕ
+block ws s t = wordBytes ws ++ replicate (504 - 4 * length ws) 0 ++ le32 s ++ le32 t
+
+abbrev T : List ℕ
+T = 0 ∷ 1 ∷ 1 ∷ 1 ∷ 2 ∷ 2 ∷ 4 ∷ []
+
+-- a question: kind, node, argument
+abbrev question : ℕ → ℕ → ℤ → List ℤ
+question kind x z = pos kind ∷ pos x ∷ z ∷ []
+
+-- T's image, with the first block of R1 and the block of R1's samples as given
+abbrev imageWith : List ℕ → List ℕ → List ℕ
+imageWith string samples =
+    block (1 ∷ 7 ∷ 4 ∷ 5 ∷ []) 17 2112
+    ++ string
+    ++ block (0 ∷ 0b11010001 ∷ []) 211 26377
+    ++ samples
+    ++ block (1 ∷ []) 5 630
+
+imageT : List ℕ
+imageT = imageWith (block (0 ∷ 0b10010110 ∷ []) 151 18876) (block (1 ∷ []) 4 504)
+
+-- the parents of a path of n + 1 nodes: 0, 1, .., n
+path : ℕ → List ℕ
+path zero = 0 ∷ []
+path (suc n) = path n ++ suc n ∷ []
+
+-- the listing of a path: node and depth, from node x at depth d, n times
+down : ℕ → ℕ → ℕ → List ℕ
+down zero x d = []
+down (suc n) x d = x ∷ d ∷ down n (suc x) (suc d)
+
+-- ---- The table.
+
+unfoldable pub cases : List Case
+unfolding imageT path down stringOf imageOfString
+cases =
+    -- 1
+    string-of-parents T (room 3) gives counts 15 1 with ((0xBB ∷ 0x20 ∷ 9 ∷ []) ∷ [])
+    ∷ parents-of-string (0xBB ∷ 0x20 ∷ []) 15 (room 8) gives counts 7 0 with ((T ++ room 1) ∷ [])
+    ∷ string-of-parents T (room 1) gives code 1 place 0 with (room 1 ∷ [])
+    -- 2: the ten sums, and the way back
+    ∷ image-of-parents T (room 2562) gives counts 7 4 with ((imageT ++ room 2) ∷ [])
+    ∷ check-image imageT gives counts 7 4 with []
+    ∷ parents-of-image imageT (room 7) gives counts 7 0 with (T ∷ [])
+    -- 3
+    ∷ string-of-parents (0 ∷ []) (room 1) gives counts 3 1 with ((0b10000000 ∷ []) ∷ [])
+    ∷ image-of-parents (0 ∷ []) (room 2560) gives counts 1 1 with ((block (1 ∷ 1 ∷ 1 ∷ 5 ∷ []) 8 990 ++ block (0 ∷ 0b10000000 ∷ []) 129 16126 ++ block (0 ∷ 0b01000000 ∷ []) 66 8252 ++ block (1 ∷ []) 4 504 ++ block (2 ∷ []) 6 756) ∷ [])
+    -- 4
+    ∷ string-of-parents (0 ∷ 1 ∷ 2 ∷ []) (room 1) gives counts 7 1 with ((0b10101000 ∷ []) ∷ [])
+    ∷ image-of-parents (0 ∷ 1 ∷ 2 ∷ []) (room 2560) gives counts 3 3 with ((block (1 ∷ 3 ∷ 3 ∷ 5 ∷ []) 12 1488 ++ block (0 ∷ 0b11100000 ∷ []) 225 28126 ++ block (0 ∷ 0b11010000 ∷ []) 210 26252 ++ block (1 ∷ []) 4 504 ++ block (1 ∷ []) 5 630) ∷ [])
+    -- 5
+    ∷ string-of-parents (0 ∷ 1 ∷ 1 ∷ 1 ∷ []) (room 2) gives counts 9 1 with ((0b10111000 ∷ 0 ∷ []) ∷ [])
+    ∷ image-of-parents (0 ∷ 1 ∷ 1 ∷ 1 ∷ []) (room 2560) gives counts 4 2 with ((block (1 ∷ 4 ∷ 2 ∷ 5 ∷ []) 12 1489 ++ block (0 ∷ 0b10010000 ∷ []) 145 18126 ++ block (0 ∷ 0b10001000 ∷ []) 138 17252 ++ block (1 ∷ []) 4 504 ++ block (1 ∷ []) 5 630) ∷ [])
+    -- 6
+    ∷ string-of-parents (0 ∷ 1 ∷ 2 ∷ 1 ∷ []) (room 2) gives code 3 place 4 with (room 2 ∷ [])
+    ∷ image-of-parents (0 ∷ 2 ∷ []) (room 1) gives code 3 place 2 with (room 1 ∷ [])
+    -- 7, and 10010
+    ∷ parents-of-string (0b11000000 ∷ []) 3 (room 2) gives code 4 place 2 with (room 2 ∷ [])
+    ∷ parents-of-string (0b10000000 ∷ []) 2 (room 2) gives code 4 place 3 with (room 2 ∷ [])
+    ∷ parents-of-string (0b10000000 ∷ []) 4 (room 2) gives code 4 place 4 with (room 2 ∷ [])
+    ∷ parents-of-string [] 0 (room 2) gives code 4 place 1 with (room 2 ∷ [])
+    ∷ parents-of-string (0b10010000 ∷ []) 5 (room 2) gives code 4 place 4 with (room 2 ∷ [])
+    -- 8
+    ∷ split (0b10010000 ∷ []) 6 2 (room 2) (room 3) gives counts 6 2 with ((1 ∷ 4 ∷ []) ∷ (1 ∷ 1 ∷ 9 ∷ []) ∷ [])
+    ∷ split (0b10010000 ∷ []) 6 1 (room 2) (room 2) gives code 10 place 2 with (room 2 ∷ room 2 ∷ [])
+    ∷ join (0b10000000 ∷ 9 ∷ []) 3 1 (0 ∷ []) gives counts 6 2 with ((0b10010000 ∷ 9 ∷ []) ∷ [])
+    -- 9
+    ∷ split (0b10110010 ∷ 0 ∷ []) 9 1 (room 1) (room 1) gives counts 9 1 with ((1 ∷ []) ∷ (4 ∷ []) ∷ [])
+    ∷ split (0b10010010 ∷ 0 ∷ []) 9 1 (room 1) (room 1) gives code 10 place 3 with (room 1 ∷ room 1 ∷ [])
+    -- 10: the parent of 7, first and last child of 2, child 2 of 2, and whether 3 is a leaf
+    ∷ ask imageT (question 1 7 (pos 0) ++ question 2 2 (pos 0) ++ question 3 2 (pos 0) ++ question 8 2 (pos 2) ++ question 9 3 (pos 0)) (room 6)
+    gives counts 5 0 with ((4 ∷ 5 ∷ 6 ∷ 6 ∷ 1 ∷ 9 ∷ []) ∷ [])
+    -- 11
+    ∷ ask imageT (question 10 2 (pos 2) ++ question 10 2 (pos 3) ++ question 10 2 (negsuc 0)) (room 3) gives counts 3 0 with ((4 ∷ 0 ∷ 0 ∷ []) ∷ [])
+    -- a question that is not allowed: the second one's node is 8
+    ∷ ask imageT (question 1 7 (pos 0) ++ question 1 8 (pos 0)) (room 2) gives code 8 place 2 with (room 2 ∷ [])
+    -- 12
+    ∷ split [] 0 0 [] [] gives counts 0 0 with ([] ∷ [] ∷ [])
+    -- the listing of T
+    ∷ list imageT 1 (room 15) gives counts 7 0 with ((1 ∷ 0 ∷ 2 ∷ 1 ∷ 5 ∷ 2 ∷ 6 ∷ 2 ∷ 3 ∷ 1 ∷ 4 ∷ 1 ∷ 7 ∷ 2 ∷ 9 ∷ []) ∷ [])
+    -- a sample, or a count of earlier ones, that is not the tree's, with the sums made right again
+    ∷ check-image (imageWith (block (0 ∷ 0b10010110 ∷ []) 151 18876) (block (2 ∷ []) 5 630)) gives code 7 place 0 with []
+    ∷ check-image (imageWith (block (1 ∷ 0b10010110 ∷ []) 152 19002) (block (1 ∷ []) 4 504)) gives code 7 place 0 with []
+    -- a block whose sums are wrong
+    ∷ check-image (imageWith (block (0 ∷ 0b10010110 ∷ []) 151 18876) (block (1 ∷ []) 4 505)) gives code 6 place 3 with []
+    -- lists of 65,536 and of 65,535 numbers
+    ∷ string-of-parents (replicate 65536 0) [] gives code 2 place 0 with ([] ∷ [])
+    ∷ string-of-parents (replicate 65535 0) [] gives code 3 place 2 with ([] ∷ [])
+    -- paths of 64 and of 65 nodes
+    ∷ list (imageOfString (stringOf (path 63))) 1 (room 128) gives counts 64 0 with (down 64 1 0 ∷ [])
+    ∷ list (imageOfString (stringOf (path 64))) 1 (room 130) gives code 9 place 65 with (room 130 ∷ [])
+    ∷ []

@@ -1,0 +1,69 @@
+-- Each definition at a point where a wrong one would differ (document 01, its cases, limits and traps), by computation.
+use mathlib.Core.Path.{_≡_, refl}
+use mathlib.Core.Bool.{true, false}
+use mathlib.Core.List.{List, [], _∷_, _++_}
+use Prim.Native.Nat.{ℕ, zero, suc}
+use lib.IntN.{negsuc}
+use lib.ListN.{take, drop, replicate, set}
+use Rattle.meaning.specs.Strings.{O, I, stringOf}
+use Rattle.meaning.specs.Scan.{one, place}
+use Rattle.meaning.specs.Blocks.{words}
+use Rattle.meaning.specs.Image.{imageOfString, isImage}
+use Rattle.meaning.specs.Questions.{siblingAt}
+use Rattle.meaning.specs.Listing.{listing, deep}
+use Rattle.meaning.specs.Answers.{_at_when_, cameTo, refusedWith, counts, settle}
+use Rattle.meaning.specs.Tests.{wrongCount}
+
+abbrev T : List ℕ
+T = 0 ∷ 1 ∷ 1 ∷ 1 ∷ 2 ∷ 2 ∷ 4 ∷ []
+
+imageT : List ℕ
+imageT = imageOfString (stringOf T)
+
+-- the parents of a path of n + 1 nodes: 0, 1, .., n
+path : ℕ → List ℕ
+path zero = 0 ∷ []
+path (suc n) = path n ++ suc n ∷ []
+
+-- the limit of a parent list
+largest-list : wrongCount (replicate 65535 0) ≡ false
+largest-list = refl
+
+-- 10010 has two ones and three zeros, and its tree is over at bit 3
+over-at-bit-3 : place one (I ∷ O ∷ O ∷ I ∷ O ∷ []) ≡ 4
+unfolding place
+over-at-bit-3 = refl
+
+-- s and t of the first block of R1 in T's image
+sums-of-block-1 : words (take 8 (drop 1016 imageT)) ≡ 151 ∷ 18876 ∷ []
+unfolding imageT stringOf imageOfString words
+sums-of-block-1 = refl
+
+-- T's image with another count of earlier ones, and with another sample
+other-count : isImage (set imageT 512 1) ≡ false
+unfolding imageT stringOf imageOfString isImage
+other-count = refl
+
+other-sample : isImage (set imageT 1536 2) ≡ false
+unfolding imageT stringOf imageOfString isImage
+other-sample = refl
+
+-- the sibling before node 4 of T
+one-to-the-left : siblingAt T 4 (negsuc 0) ≡ 3
+unfolding siblingAt
+one-to-the-left = refl
+
+-- parents first, children in order
+listing-of-T : listing 65 T 1 0 ≡ 1 ∷ 0 ∷ 2 ∷ 1 ∷ 5 ∷ 2 ∷ 6 ∷ 2 ∷ 3 ∷ 1 ∷ 4 ∷ 1 ∷ 7 ∷ 2 ∷ []
+unfolding listing
+listing-of-T = refl
+
+-- a path of 65 nodes has its last one at depth 64
+too-deep : deep (listing 65 (path 64) 1 0) ≡ 65
+unfolding path listing deep
+too-deep = refl
+
+-- a refused call leaves what is lent to it
+refused-unchanged : settle {A = ℕ} 5 (4 at 2 when true ∷ []) (counts 7 7) 6 ≡ cameTo (refusedWith 4 2) 5
+unfolding settle
+refused-unchanged = refl
