@@ -1,4 +1,5 @@
--- The sign and the size of a signed number. A signed local holds bits, so what is asked of the code speaks of `r32 z`: that is z, where z fits.
+-- The sign and the size of a signed number. A signed local holds bits, so what is asked of the code
+-- speaks of `r32 z`: that is z, where z fits.
 use mathlib.Core.Path.{_≡_, refl, sym, ap, _∙_}
 use mathlib.Core.Bool.{Bool, true, false}
 use Prim.Native.Nat.{ℕ, zero, suc, _<_}
@@ -78,7 +79,7 @@ module _ (z : ℤ) (f : mag z < 2147483648) where
     pub below-value : signed true (natAbs (r64 (pos 0 -ℤ r64 (r32 z)))) ≡ z
     below-value = ap (λ (y : ℤ). signed true (natAbs y)) reads ∙ whole .value
 
--- ---- zero is told by the size
+-- ---- zero is known by its size
 
 pub zero-size : (t : Bool) (n : ℕ) → eqb n 0 ≡ isZero (signed t n)
 zero-size true zero = refl

@@ -1,4 +1,4 @@
-// Which questions are allowed: three signed numbers to a question, taken apart here and nowhere else.
+// Which questions are allowed; their signed numbers are taken apart here and nowhere else.
 ghost use mathlib.Core.Path.{_≡_};
 ghost use Prim.Native.Nat.{_+_, _*_, _≤_, _<_};
 ghost use lib.IntN.{pos};
@@ -8,7 +8,8 @@ ghost use Rattle.ask_argument.specs.Values.{valueOf};
 ghost use Rattle.ask_allowed.specs.Asked.{questionAt};
 use ask_argument::Signed;
 
-// A number of a list, its sign and its size apart. The size of -2^31 is no signed number of 32 bits: hence the 64.
+// A number of a list, its sign and its size apart. The size of -2^31 is no signed number of 32
+// bits: hence the 64.
 pub fn signed_at(asked: &[i32], at: usize) -> Signed
     requires { ⌜ at < length (now asked) ⌝ }
     ensures { λ r. ⌜ valueOf r ≡ getD (now (asked .entry)) at (pos 0) ⌝ }

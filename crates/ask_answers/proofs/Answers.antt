@@ -61,7 +61,9 @@ module _ (ps : List ℕ) (n : ℕ) (qs : List ℤ) where
           behind : written left (drop (i + 1) (set out i a)) ≡ left ++ drop (suc (length left)) (drop i out)
           behind =
               let f : i + 1 + length left ≡ i + suc (length left) = omega arith in
-              ap (λ r. left ++ r) (ap (drop (length left)) (drop-set-lt (i + 1) out i a (omega arith)) ∙ drop-drop (length left) (i + 1) out ∙ ap (λ j. drop j out) f ∙ sym (drop-drop (suc (length left)) i out))
+              ap (λ r. left ++ r)
+              (ap (drop (length left)) (drop-set-lt (i + 1) out i a (omega arith)) ∙ drop-drop (length left) (i + 1) out ∙ ap (λ j. drop j out) f
+              ∙ sym (drop-drop (suc (length left)) i out))
 
           here : toCome out i ≡ take i out ++ a ∷ (left ++ drop (suc (length left)) (drop i out))
           here =

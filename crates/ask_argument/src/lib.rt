@@ -1,4 +1,4 @@
-// The sign and the size of a question's argument; a node's number, moved by it and held within bounds.
+// The sign and the size of a question's argument; a node's number moved by it, within bounds.
 ghost use mathlib.Core.Path.{_≡_};
 ghost use Prim.Native.Nat.{_≤_};
 ghost use Rattle.theory.specs.ByStrings.{within};

@@ -4,29 +4,26 @@ ghost use Prim.Native.Nat.{_≤_};
 ghost use lib.IntN.{pos};
 ghost use Rattle.meaning.specs.Image.{parentsIn};
 ghost use Rattle.meaning.specs.Questions.{answerKind, kindOf};
-ghost use Rattle.image_found.specs.declared.Checked.the-variants.{Sound};
-ghost use Rattle.image_found.specs.Checked.{checked};
 ghost use Rattle.ask_argument.specs.Values.{valueOf};
+ghost use Rattle.nav_strings.specs.Nodes.{IsNode};
 use ask_argument::Signed;
-use by_bit::is_leaf;
-use by_bit::next_sibling;
-use by_bit::previous_sibling;
 use image_layout::Layout;
 use nav_children::child_number;
 use nav_children::degree_of;
 use nav_children::first_child;
+use nav_children::is_leaf;
 use nav_children::last_child;
 use nav_children::parent_of;
 use nav_siblings::child_rank;
+use nav_siblings::next_sibling;
+use nav_siblings::previous_sibling;
 use nav_siblings::sibling_at;
 
 // The answer to one question, kinds 1 to 10.
 pub fn answer_kind(b: &[u8], image: Layout, kind: u32, x: usize, z: Signed) -> u32
-    requires { ⌜ checked (now b) ≡ Sound image ⌝ }
+    requires { ⌜ IsNode (now b) image x ⌝ }
     requires { ⌜ 1 ≤ kind ⌝ }
     requires { ⌜ kind ≤ 10 ⌝ }
-    requires { ⌜ 1 ≤ x ⌝ }
-    requires { ⌜ x ≤ image .nodes ⌝ }
     ensures { λ r. ⌜ r ≡ answerKind (parentsIn (now (b .entry))) (kindOf (pos kind)) x (valueOf z) ⌝ }
 {
     match kind {

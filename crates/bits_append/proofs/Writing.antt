@@ -15,7 +15,8 @@ use Rattle.theory.proofs.Packing.{bits-length}
 use Rattle.bits_byte.specs.Byte.{byteBits}
 use Rattle.bits_append.specs.Appended.{appended}
 use Rattle.bits_byte.proofs.Byte.{digit, zeros-at, byte-digit, number-digit, joined, spilled}
-use Rattle.bits_append.proofs.Appending.{appended-length, appended-bytes, appended-front, appended-new, appended-rest, appended-same, appended-twice, set-bytes, bit-digit, set-bit-same, set-bit-other}
+use Rattle.bits_append.proofs.Appending.{appended-length, appended-bytes, appended-front, appended-new, appended-rest}
+use Rattle.bits_append.proofs.Appending.{appended-same, appended-twice, set-bytes, bit-digit, set-bit-same, set-bit-other}
 
 -- ---- the byte that bit `at` is in
 

@@ -1,4 +1,4 @@
-// Bits appended to a lent buffer.
+// Bits, and zeros, appended to a lent buffer; the rest of the last byte becomes zero.
 ghost use mathlib.Core.Path.{_≡_};
 ghost use Prim.Native.Nat.{_+_, _*_, _≤_};
 ghost use lib.ListN.{length, replicate, take};
@@ -7,7 +7,8 @@ ghost use Rattle.bits_byte.specs.Byte.{byteBits};
 ghost use Rattle.bits_append.specs.Appended.{appended};
 use bits_byte::keep;
 
-// Writes the first n bits of `x` after the first `at` bits of `buf`. The rest of the last byte written becomes zero.
+// Writes the first n bits of `x` after the first `at` bits of `buf`. The rest of the last byte
+// written becomes zero.
 pub fn append(buf: &mut [u8], at: usize, x: u8, n: usize)
     requires { ⌜ 1 ≤ n ⌝ }
     requires { ⌜ n ≤ 8 ⌝ }

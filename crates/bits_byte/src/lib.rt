@@ -1,4 +1,4 @@
-// The bits of a byte, most significant first.
+// One bit of bytes, read and set; the bits of a byte: the first of them kept, the ones counted.
 ghost use mathlib.Core.Path.{_≡_};
 ghost use mathlib.Core.List.{[], _∷_};
 ghost use Prim.Native.Nat.{_*_, _<_, _≤_};
@@ -30,7 +30,7 @@ pub fn set_bit(buf: &mut [u8], p: usize)
     ensures { λ _. ⌜ now (buf .exit) ≡ lit (now (buf .entry)) p ⌝ }
 {
     let i = p / 8;
-    buf[i] = buf[i] | (128 >> (p % 8));
+    buf[i] = buf[i] | (0x80 >> (p % 8));
 }
 
 // The first n bits of a byte, and zeros after them.
@@ -38,7 +38,7 @@ pub fn keep(x: u8, n: usize) -> u8
     requires { ⌜ n ≤ 8 ⌝ }
     ensures { λ r. ⌜ r ≡ number 8 (take n (byteBits x)) ⌝ }
 {
-    ((x as u32) & (65280 >> n)) as u8
+    ((x as u32) & (0xFF00 >> n)) as u8
 }
 
 // How many bits of a byte are one.

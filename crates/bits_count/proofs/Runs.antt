@@ -1,4 +1,5 @@
--- Ones counted in a run of bits: whole bytes from byte `at` on, and the first bits of the byte after them.
+-- Ones counted in a run of bits: whole bytes from byte `at` on, and the first bits of the byte
+-- after them.
 use mathlib.Core.Path.{_≡_, refl, sym, ap, _∙_}
 use mathlib.Core.List.{List, [], _∷_}
 use Prim.Native.Nat.{ℕ, _+_, _-_, _*_, _/_, _%_, _≤_}

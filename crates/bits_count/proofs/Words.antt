@@ -118,10 +118,16 @@ module _ (bytes : List ℕ) where
       omega (arith, and-block 8 a b r s lr (number-lt 8 (bitsFrom bytes (8 * j) 8)), and-le-l a b, and-le-l r s) in
       ap count.ones split
       ∙ ones-cat 8 (a - bitAnd a b) (r - bitAnd r s) (omega arith)
-      ∙ omega (arith, little-without (suc i) (suc j) n, byte-without (8 * i) (8 * j), ones-append (without (bitsFrom bytes (8 * i) 8) (bitsFrom bytes (8 * j) 8)) (without (bitsFrom bytes (8 * suc i) (8 * n)) (bitsFrom bytes (8 * suc j) (8 * n))))
+      ∙ omega (
+        arith,
+        little-without (suc i) (suc j) n,
+        byte-without (8 * i) (8 * j),
+        ones-append (without (bitsFrom bytes (8 * i) 8) (bitsFrom bytes (8 * j) 8)) (without (bitsFrom bytes (8 * suc i) (8 * n)) (bitsFrom bytes (8 * suc j) (8 * n))),
+      )
       ∙ ap (λ l. ones l) (sym (
       ap₂ without (bytes-cut i n) (bytes-cut j n)
-      ∙ without-append (bitsFrom bytes (8 * i) 8) (bitsFrom bytes (8 * j) 8) (bitsFrom bytes (8 * suc i) (8 * n)) (bitsFrom bytes (8 * suc j) (8 * n)) (bits-length bytes (8 * i) 8 ∙ sym (bits-length bytes (8 * j) 8))))
+      ∙ without-append (bitsFrom bytes (8 * i) 8) (bitsFrom bytes (8 * j) 8) (bitsFrom bytes (8 * suc i) (8 * n)) (bitsFrom bytes (8 * suc j) (8 * n))
+      (bits-length bytes (8 * i) 8 ∙ sym (bits-length bytes (8 * j) 8))))
 
   pub without-ones : (i j v w : ℕ) → v ≡ little bytes i 8 → w ≡ little bytes j 8
       → count.ones (v - bitAnd v w) ≡ ones (without (bitsFrom bytes (8 * i) 64) (bitsFrom bytes (8 * j) 64))

@@ -1,4 +1,4 @@
-// Ones counted in a run of bits, in part of eight bytes, and in eight bytes without those of eight others.
+// Ones counted: in a run of bits, in part of eight bytes, in eight bytes but not in eight others.
 ghost use mathlib.Core.Path.{_≡_};
 ghost use Prim.Native.Nat.{_+_, _*_, _/_, _<_, _≤_};
 ghost use lib.ListN.{length};
@@ -11,7 +11,8 @@ use bits_word::ones_in_word;
 use bits_word::stored_word;
 use bits_word::whole_word;
 
-// How many of the n bits from byte `at` on are one: words of eight bytes, then bytes, then the front of the last byte.
+// How many of the n bits from byte `at` on are one: words of eight bytes, then bytes, then the
+// front of the last byte.
 pub fn ones_from(b: &[u8], at: usize, n: usize) -> u32
     requires { ⌜ n ≤ 4000 ⌝ }
     requires { ⌜ at + (n + 7) / 8 ≤ length (now b) ⌝ }
@@ -44,7 +45,8 @@ pub fn ones_before(b: &[u8], at: usize, n: usize) -> u32
     u64::count_ones((whole_word(b, at) >> 1) >> (63 - n))
 }
 
-// How many of the bits from byte `at` on up to the one that p come before are one, if that one is; else 0.
+// How many of the bits from byte `at` on up to the one that p come before are one, if that one is;
+// else 0.
 pub fn ones_ending(b: &[u8], at: usize, p: usize) -> u32
     requires { ⌜ p < 64 ⌝ }
     requires { ⌜ at + 8 ≤ length (now b) ⌝ }
@@ -55,7 +57,8 @@ pub fn ones_ending(b: &[u8], at: usize, p: usize) -> u32
     (x % 2) as u32 * u64::count_ones(x)
 }
 
-// At how many of 64 places the bits from byte `at` on are one, and those from byte `other` on are not.
+// At how many of 64 places the bits from byte `at` on are one, and those from byte `other` on are
+// not.
 pub fn ones_without(b: &[u8], at: usize, other: usize) -> u32
     requires { ⌜ at + 8 ≤ length (now b) ⌝ }
     requires { ⌜ other + 8 ≤ length (now b) ⌝ }

@@ -1,4 +1,5 @@
--- A word that has bit k of the bits from byte `at` on: what its bits up to k, and those from k on, say of them.
+-- A word that has bit k of the bits from byte `at` on: what its bits up to k, and those from k on,
+-- say of them.
 use mathlib.Core.Path.{_≡_, refl, ap, _∙_}
 use mathlib.Core.List.{List}
 use Prim.Native.Nat.{ℕ, _+_, _-_, _*_, _/_, _^_, _≤_, _<_}

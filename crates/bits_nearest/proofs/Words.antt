@@ -1,4 +1,4 @@
--- Where the first and the last one of the bits in a word stand.
+-- Where the first and the last one of the bits in a word are.
 use mathlib.Core.Path.{_≡_, refl, sym, ap, _∙_}
 use mathlib.Core.List.{List}
 use Prim.Native.Nat.{ℕ, zero, suc, _+_, _-_, _*_, _/_, _%_, _^_, _≤_, _<_}

@@ -14,7 +14,8 @@ pub record LastOne (bytes : List ℕ) (q n r : ℕ) : Type 0 where
   pub found : 1 ≤ r → value (bitAt bytes (q + (r - 1))) ≡ 1
   pub clear : Clear bytes q r n
 
--- r of the first 4000 bits come before the first one that is not among the first n; r is 4000 if there is none
+-- r of the first 4000 bits come before the first one that is not among the first n; r is 4000 if
+-- there is none
 pub record FirstOne (bytes : List ℕ) (q n r : ℕ) : Type 0 where
   pub from : n ≤ r
   pub within : r ≤ 4000

@@ -1,10 +1,11 @@
-// The one next to a bit, on either side, in the 4000 bits of a block: found by words of eight bytes.
+// The nearest one on either side of a bit, in the 4,000 bits of a block, by words.
 ghost use Prim.Native.Nat.{_+_, _*_, _≤_, _<_};
 ghost use lib.ListN.{length};
 ghost use Rattle.bits_nearest.specs.Found.{LastOne, FirstOne};
 use bits_word::whole_word;
 
-// A word that has bit k among its own and, where it can, most of the bits before it: its first byte.
+// A word that has bit k among its own and, where it can, most of the bits before it: its first
+// byte.
 fn word_to(k: usize) -> usize
     requires { ⌜ k < 4000 ⌝ }
     ensures { λ r. ⌜ (8 * r ≤ k) × (k < 8 * r + 64) × (r ≤ 492) ⌝ }
@@ -15,7 +16,8 @@ fn word_to(k: usize) -> usize
     k / 8 - 7
 }
 
-// A word that has bit k among its own and, where it can, most of the bits behind it: its first byte.
+// A word that has bit k among its own and, where it can, most of the bits after it: its first
+// byte.
 fn word_from(k: usize) -> usize
     requires { ⌜ k < 4000 ⌝ }
     ensures { λ r. ⌜ (8 * r ≤ k) × (k < 8 * r + 64) × (r ≤ 492) ⌝ }
@@ -26,8 +28,10 @@ fn word_from(k: usize) -> usize
     k / 8
 }
 
-// How many of the first n bits from byte `at` on there are up to the last one among them, 0 if they have none.
-// It lends its bytes to no call that stays one: a list lent on is copied first, and the copy waits for the caller's stores.
+// How many of the first n bits from byte `at` on there are up to the last one among them, 0 if they
+// have none.
+// It lends its bytes to no call that stays one: a list lent on is copied first, and the copy waits
+// for the caller's stores.
 pub fn last_one(b: &[u8], at: usize, n: usize) -> usize
     requires { ⌜ n ≤ 4000 ⌝ }
     requires { ⌜ at + 500 ≤ length (now b) ⌝ }
@@ -46,7 +50,8 @@ pub fn last_one(b: &[u8], at: usize, n: usize) -> usize
     0
 }
 
-// How many of the first 4000 bits from byte `at` on come before the first one that is not among the first n, 4000 if there is none.
+// How many of the first 4000 bits from byte `at` on come before the first one that is not among the
+// first n, 4000 if there is none.
 pub fn first_one(b: &[u8], at: usize, n: usize) -> usize
     requires { ⌜ n ≤ 4000 ⌝ }
     requires { ⌜ at + 500 ≤ length (now b) ⌝ }
@@ -55,7 +60,7 @@ pub fn first_one(b: &[u8], at: usize, n: usize) -> usize
     let mut next = n;
     while next < 4000 {
         let from = word_from(next);
-        let near = whole_word(b, at + from) & (18446744073709551615 >> (next - 8 * from));
+        let near = whole_word(b, at + from) & (0xFFFFFFFFFFFFFFFF >> (next - 8 * from));
         if near != 0 {
             return 8 * from + u64::leading_zeros(near) as usize;
         }

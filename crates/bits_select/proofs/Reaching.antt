@@ -15,14 +15,14 @@ use Rattle.bits_byte.specs.Byte.{byteBits}
 use Rattle.bits_select_byte.proofs.Placing.{position-front}
 use Rattle.bits_count.proofs.Runs.{ones-cut}
 
--- ---- two lists, one behind the other
+-- ---- two lists, one after the other
 
 front : (a b : List Bit) (k : ℕ) → 1 ≤ k → k ≤ ones a → position (a ++ b) k ≡ position a k
 front a b zero h g = absurd (omega arith)
 front a b (suc k) h g = position-front a b k (omega arith)
 
-behind : (a b : List Bit) (k : ℕ) → ones a < k → position (a ++ b) k ≡ length a + position b (k - ones a)
-behind a b k h =
+later : (a b : List Bit) (k : ℕ) → ones a < k → position (a ++ b) k ≡ length a + position b (k - ones a)
+later a b k h =
     let j = k - ones a - 1 in
     ap (position (a ++ b)) (let e : k ≡ suc (ones a + j) = omega arith in e)
     ∙ position-split a b j
@@ -58,7 +58,7 @@ module _ (f : ℕ → ℕ → List Bit) (cut : (k m p : ℕ) → f p (k + m) ≡
     | no h ↦ sym (longer p m w k (omega arith) s l)
   ]
 
-  -- w bits that do not have it, and those behind them
+  -- w bits that do not have it, and those after them
   module _ (p w m k : ℕ) (short : ones (f p w) < k) (there : k ≤ ones (f p m)) where
     pub past-more : w < m
     past-more = elim (decLt w m) [
@@ -75,7 +75,7 @@ module _ (f : ℕ → ℕ → List Bit) (cut : (k m p : ℕ) → f p (k + m) ≡
         let n = m - w in
         ap (λ j. position (f p j) k) (let e : m ≡ w + n = omega arith in e)
         ∙ ap (λ l. position l k) (cut w n p)
-        ∙ behind (f p w) (f (p + w) n) k short
+        ∙ later (f p w) (f (p + w) n) k short
         ∙ ap (λ j. j + position (f (p + w) n) (k - ones (f p w))) (size p w)
 
 -- ---- whole bytes
@@ -83,16 +83,14 @@ module _ (f : ℕ → ℕ → List Bit) (cut : (k m p : ℕ) → f p (k + m) ≡
 pub byte-here : (bytes : List ℕ) (i : ℕ) → bitsFrom bytes (8 * i) 8 ≡ byteBits (getD bytes i 0)
 byte-here bytes i = ap (λ p. bitsFrom bytes p 8) (let e : 8 * i ≡ 8 * i + 0 = omega arith in e) ∙ bits-of-byte bytes i 0 8 (omega arith)
 
-pub byte-place-le : (x k : ℕ) → position (byteBits x) k ≤ 8
-byte-place-le x k = omega (arith, position-le (byteBits x) k, bits-length (x ∷ []) 0 8)
-
--- v bytes and as many behind them
+-- v bytes and as many after them
 pub ones-twice : (bytes : List ℕ) (at v : ℕ) → ones (bitsFrom bytes (8 * at) (8 * v)) + ones (bitsFrom bytes (8 * (at + v)) (8 * v)) ≡ ones (bitsFrom bytes (8 * at) (8 * v + 8 * v))
 ones-twice bytes at v =
     ap (λ p. ones (bitsFrom bytes (8 * at) (8 * v)) + ones (bitsFrom bytes p (8 * v))) (let e : 8 * (at + v) ≡ 8 * at + 8 * v = omega arith in e)
     ∙ sym (ones-cut bytes (8 * at) (8 * v) (8 * v))
 
--- looking for one number k of the e bytes from `at` on, one is to find number `need` of the v bytes from i on
+-- looking for one number k of the e bytes from `at` on, one is to find number `need` of the v bytes
+-- from i on
 pub record Reached (bytes : List ℕ) (at e k i v need : ℕ) : Type 0 where
   pub start : at ≤ i
   pub end : i + v ≤ at + e

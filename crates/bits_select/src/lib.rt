@@ -1,11 +1,11 @@
-// The place of a one in bytes.
+// The place of a one in bytes: by words of eight bytes, by halves of a word, and then in its byte.
 ghost use mathlib.Core.Path.{_≡_};
 ghost use Prim.Native.Nat.{_+_, _-_, _*_, _≤_};
 ghost use lib.ListN.{length};
+ghost use Rattle.theory.specs.Bounds.{mostBlock};
 ghost use Rattle.meaning.specs.Strings.{ones};
 ghost use Rattle.meaning.specs.Bytes.{bitsFrom};
 ghost use Rattle.theory.specs.Rank.{position};
-ghost use Rattle.bits_byte.specs.Byte.{byteBits};
 use bits_byte::ones_in_byte;
 use bits_select_byte::select_in_byte;
 use bits_word::ones_in_word;
@@ -26,25 +26,8 @@ fn ones_in_four(b: &[u8], at: usize) -> u32
     ones_in_two(b, at) + ones_in_two(b, at + 2)
 }
 
-// The place, from 1, of the k-th one of a byte, by the half that has it, moved to the front: so `select_in_byte` goes one way, and no branch depends on the bits.
-fn place_by_half(x: u8, k: u32) -> u32
-    requires { ⌜ 1 ≤ k ⌝ }
-    requires { ⌜ k ≤ ones (byteBits x) ⌝ }
-    ensures { λ r. ⌜ r ≡ position (byteBits x) k ⌝ }
-{
-    let before = ones_in_byte(x >> 4);
-    let mut half = x;
-    let mut need = k;
-    let mut passed: u32 = 0;
-    if before < k {
-        half = x << 4;
-        need = k - before;
-        passed = 4;
-    }
-    passed + select_in_byte(half, need)
-}
-
-// The place, from 1, of one number k of the eight bytes from `at` on: the half that has it, three times without a branch, and then in its byte.
+// The place, from 1, of one number k of the eight bytes from `at` on: in the half that has it,
+// three times without a branch, and then in its byte.
 fn place_in_word(b: &[u8], at: usize, k: u32) -> usize
     requires { ⌜ 1 ≤ k ⌝ }
     requires { ⌜ at + 8 ≤ length (now b) ⌝ }
@@ -68,13 +51,14 @@ fn place_in_word(b: &[u8], at: usize, k: u32) -> usize
         need -= one;
         i += 1;
     }
-    8 * (i - at) + place_by_half(b[i], need) as usize
+    8 * (i - at) + select_in_byte(b[i], need) as usize
 }
 
-// The place, from 1, of one number k of the bits from byte `at` on. It stands before the last seven bytes, so that words can be read up to it.
+// The place, from 1, of one number k of the bits from byte `at` on. It is before the last seven
+// bytes, so that words can be read up to it.
 pub fn place_from(b: &[u8], at: usize, k: u32) -> usize
     requires { ⌜ 1 ≤ k ⌝ }
-    requires { ⌜ length (now b) ≤ 512 * 53 ⌝ }
+    requires { ⌜ length (now b) ≤ 512 * mostBlock ⌝ }
     requires { ⌜ k ≤ ones (bitsFrom (now b) (8 * at) (8 * (length (now b) - 7 - at))) ⌝ }
     ensures { λ r. ⌜ r ≡ position (bitsFrom (now (b .entry)) (8 * at) (8 * (length (now (b .entry)) - 7 - at))) k ⌝ }
 {

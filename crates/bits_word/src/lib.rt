@@ -1,4 +1,4 @@
-// Eight bytes at once: the ones in them, and their bits as a number.
+// Eight bytes at once: the number that they are stored as, their ones, their bits as a number.
 ghost use mathlib.Core.Path.{_≡_};
 ghost use Prim.Native.Nat.{_+_, _*_, _≤_};
 ghost use lib.ListN.{length};
@@ -7,7 +7,8 @@ ghost use Rattle.meaning.specs.Bytes.{bitsFrom, number};
 ghost use Rattle.bits_word.specs.Little.{little};
 use bits_wide::byte_to_u64;
 
-// The number that the eight bytes from `at` on write, the first least significant: one load, whatever is read around it.
+// The number that the eight bytes from `at` on write, the first least significant: one load,
+// whatever is read around it.
 pub fn stored_word(b: &[u8], at: usize) -> u64
     requires { ⌜ at + 8 ≤ length (now b) ⌝ }
     ensures { λ r. ⌜ r ≡ little (now (b .entry)) at 8 ⌝ }
@@ -35,9 +36,9 @@ fn half_word(b: &[u8], at: usize) -> u64
     requires { ⌜ at + 4 ≤ length (now b) ⌝ }
     ensures { λ r. ⌜ r ≡ number 32 (bitsFrom (now (b .entry)) (8 * at) 32) ⌝ }
 {
-    byte_to_u64(b[at]) * 16777216
-        + byte_to_u64(b[at + 1]) * 65536
-        + byte_to_u64(b[at + 2]) * 256
+    byte_to_u64(b[at]) * 0x1000000
+        + byte_to_u64(b[at + 1]) * 0x10000
+        + byte_to_u64(b[at + 2]) * 0x100
         + byte_to_u64(b[at + 3])
 }
 
@@ -46,5 +47,5 @@ pub fn whole_word(b: &[u8], at: usize) -> u64
     requires { ⌜ at + 8 ≤ length (now b) ⌝ }
     ensures { λ r. ⌜ r ≡ number 64 (bitsFrom (now (b .entry)) (8 * at) 64) ⌝ }
 {
-    half_word(b, at) * 4294967296 + half_word(b, at + 4)
+    half_word(b, at) * 0x100000000 + half_word(b, at + 4)
 }

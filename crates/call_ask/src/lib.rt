@@ -1,4 +1,4 @@
-// Questions to an image: the whole check, then which are allowed, then their answers.
+// The call `ask`: the whole check, which questions are allowed, and their answers.
 ghost use mathlib.Core.Path.{_≡_};
 ghost use Rattle.meaning.specs.Answers.{cameTo};
 ghost use Rattle.calls.specs.Calls.{askImage};

@@ -1,4 +1,4 @@
-// `check_image`: the whole check, with n and m of a sound image.
+// The call `check_image`: n and m of an image that the whole check finds sound, or the refusal.
 ghost use mathlib.Core.Path.{_≡_};
 ghost use Rattle.meaning.specs.Answers.{cameTo};
 ghost use Rattle.calls.specs.Calls.{checkImage};

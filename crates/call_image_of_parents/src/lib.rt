@@ -1,4 +1,4 @@
-// Images: a parent list's, sealed.
+// The call `image_of_parents`: the sealed image of a parent list.
 ghost use mathlib.Core.Path.{_≡_};
 ghost use Prim.Native.Nat.{_*_};
 ghost use Rattle.meaning.specs.Answers.{cameTo};

@@ -1,4 +1,4 @@
-// Packs joined.
+// The call `join`: a tree added to a pack in a lent buffer.
 ghost use mathlib.Core.Path.{_≡_};
 ghost use Rattle.meaning.specs.Answers.{cameTo};
 ghost use Rattle.calls.specs.Calls.{joinPack};

@@ -1,4 +1,4 @@
-// The depth-first listing of an image.
+// The call `list`: the whole check, then the listing of a node, measured and written.
 ghost use mathlib.Core.Path.{_≡_};
 ghost use Rattle.meaning.specs.Answers.{cameTo};
 ghost use Rattle.calls.specs.Calls.{listImage};

@@ -1,4 +1,4 @@
-// The parent list of a sealed tree, read back from its image.
+// The call `parents_of_image`: the parent list of a sealed tree, after the whole check.
 ghost use mathlib.Core.Path.{_≡_};
 ghost use Rattle.meaning.specs.Answers.{cameTo};
 ghost use Rattle.calls.specs.Calls.{parentsOfImage};

@@ -1,4 +1,4 @@
-// Parents from a tree string.
+// The call `parents_of_string`: the parent list that a tree string gives.
 ghost use mathlib.Core.Path.{_≡_};
 ghost use Rattle.meaning.specs.Answers.{cameTo};
 ghost use Rattle.calls.specs.Calls.{parentsOfString};

@@ -1,4 +1,4 @@
-// Packs split.
+// The call `split`: the first bit and the node count of each tree of a pack.
 ghost use mathlib.Core.Path.{_≡_};
 ghost use Rattle.meaning.specs.Answers.{cameTo};
 ghost use Rattle.calls.specs.Calls.{splitPack};

@@ -1,4 +1,4 @@
-// A tree string from parents.
+// The call `string_of_parents`: the tree string of a parent list.
 ghost use mathlib.Core.Path.{_≡_};
 ghost use Rattle.meaning.specs.Answers.{cameTo};
 ghost use Rattle.calls.specs.Calls.{stringOfParents};

@@ -1,5 +1,6 @@
--- The nine public calls: from what is lent to the answer and to what the lent lists hold afterwards, for any input.
--- The refusals of each stand in the order of document 01's table, "Numbers a caller gets back".
+-- The nine public calls: from what is lent to the answer and to what the lent lists hold
+-- afterwards, for any input.
+-- The refusals of each are in the order of document 01's table, "Numbers a caller gets back".
 use mathlib.Core.Bool.{Bool, false, not, _||_}
 use mathlib.Core.List.{List, [], _∷_, _++_, map}
 use Prim.Native.Nat.{ℕ, _+_, _*_, _/_, _%_}
@@ -126,7 +127,8 @@ joinPack pack L k ps =
     (counts longer (k + 1))
     (written (packed joined) pack)
 
--- ---- All calls: a call with its inputs, and what comes back, the answer and each lent list that may be written.
+-- ---- All calls: a call with its inputs, and what comes back, the answer and each lent list that
+-- may be written.
 
 pub data Call : Type 0 where
   string-of-parents : (parents bytes : List ℕ) → Call

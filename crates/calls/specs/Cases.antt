@@ -1,4 +1,5 @@
--- Document 01's cases, "Twelve checked by hand", with its traps and cheap limits: a call, its inputs, and what comes back, lent lists included.
+-- Document 01's cases, "Twelve checked by hand", with its traps and cheap limits: a call, its
+-- inputs, and what comes back, lent lists included.
 use mathlib.Core.List.{List, [], _∷_, _++_}
 use Prim.Native.Nat.{ℕ, zero, suc, _*_, _-_}
 use lib.IntN.{ℤ, pos, negsuc}

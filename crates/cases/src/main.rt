@@ -1,9 +1,11 @@
-// Runs a script of cases, which it reads: each line is a word and numbers (crate `cases_script`), the words told apart by their first letters; any other line
-// is a remark. A tree, and bytes in hand (a string, a pack or an image), stay from line to line. Each line is printed, and below it what the public call
-// came to and every list that it wrote to, whole. Such a list holds 9s before the call: what is not written must stay. A number that a line lacks is 0, and
-// a size is cut to what there is, so that every script is safe to run.
-ghost use Prim.Native.Nat.{_<_};
-ghost use lib.ListN.{length};
+// A program that runs a script of cases through the exported calls and prints what comes back.
+// It reads the script: each line is a word and numbers (crate `cases_script`); a
+// line that begins with no such word is a remark. A tree, and bytes in hand (a string, a pack or an
+// image), stay from line to line. Each line is printed, and below it what the public call answered
+// and every list that it wrote to, whole. Such a list holds 9s before the call: what is not written
+// must stay. A number that a line lacks is 0, and a size is cut to what there is, so that every
+// script is safe to run.
+use cases_script::Word;
 use cases_script::number;
 use cases_script::room;
 use cases_script::signed;
@@ -12,27 +14,27 @@ use cases_show::Digest;
 use meaning::Answer;
 use std::num::wrapping_add_u32;
 
-fn call_bytes(letter: u8, numbers: &[u32], parents: &[u32], list: &mut [u8]) -> Answer {
-    match letter {
-        b'e' => parlaqen::plq_string_of_parents(parents, list),
-        b'i' => parlaqen::plq_image_of_parents(parents, list),
+fn call_bytes(word: Word, numbers: &[u32], parents: &[u32], list: &mut [u8]) -> Answer {
+    match word {
+        Word::Encode => parlaqen::plq_string_of_parents(parents, list),
+        Word::Image => parlaqen::plq_image_of_parents(parents, list),
         _ => parlaqen::plq_join(list, size(numbers, 2), size(numbers, 3), parents),
     }
 }
 
-fn make_in(letter: u8, numbers: &[u32], parents: &[u32], list: &mut [u8]) {
-    cases_show::answered(call_bytes(letter, numbers, parents, list));
+fn make_in(word: Word, numbers: &[u32], parents: &[u32], list: &mut [u8]) {
+    cases_show::answered(call_bytes(word, numbers, parents, list));
     cases_show::bytes(list);
 }
 
 // encode NODES ROOM             the tree's string, in hand
 // image NODES ROOM              the tree's image, in hand
-// join NODES ROOM BITS TREES    the tree's string behind the pack in hand
-fn make(letter: u8, numbers: &[u32], parents: &[u32], bytes: &mut [u8]) {
+// join NODES ROOM BITS TREES    the tree's string after the pack in hand
+fn make(word: Word, numbers: &[u32], parents: &[u32], bytes: &mut [u8]) {
     let n = room(numbers, 0, parents.len());
     let m = room(numbers, 1, bytes.len());
-    cases_script::alter(letter, numbers, bytes);
-    make_in(letter, numbers, &parents[0..n], &mut bytes[0..m]);
+    cases_script::alter(word, numbers, bytes);
+    make_in(word, numbers, &parents[0..n], &mut bytes[0..m]);
 }
 
 // Has every question ask about one node.
@@ -50,8 +52,9 @@ fn after_answers(before: Digest, image: &[u8], asked: &[i32]) -> Digest {
     cases_show::after_words(before, &answers)
 }
 
-// nodes BYTES FIRST NODES NUMBER..    26 questions about each of so many nodes, in place of the node that they name, with room for 27 answers:
-//                                     all these lists in sum
+// nodes BYTES FIRST NODES NUMBER..    26 questions about each of so many nodes, in place of the one
+//                                     that they name, with room for 27 answers: all these lists in
+//                                     sum
 fn nodes(numbers: &[u32], image: &[u8]) {
     let mut asked = [0i32; 78];
     let mut d = Digest {
@@ -73,20 +76,21 @@ fn ask(numbers: &[u32], image: &[u8], list: &mut [u32]) -> Answer {
     parlaqen::plq_ask(image, &asked[0..n], list)
 }
 
-fn call_words(letter: u8, numbers: &[u32], bytes: &[u8], list: &mut [u32]) -> Answer {
-    match letter {
-        b'd' => parlaqen::plq_parents_of_string(bytes, size(numbers, 2), list),
-        b'u' => parlaqen::plq_parents_of_image(bytes, list),
-        b'a' => ask(numbers, bytes, list),
+fn call_words(word: Word, numbers: &[u32], bytes: &[u8], list: &mut [u32]) -> Answer {
+    match word {
+        Word::Decode => parlaqen::plq_parents_of_string(bytes, size(numbers, 2), list),
+        Word::Unseal => parlaqen::plq_parents_of_image(bytes, list),
+        Word::Ask => ask(numbers, bytes, list),
         _ => parlaqen::plq_list(bytes, number(numbers, 2), list),
     }
 }
 
-fn read_in(letter: u8, numbers: &[u32], parents: &[u32], bytes: &[u8], list: &mut [u32]) {
-    cases_show::answered(call_words(letter, numbers, bytes, list));
+fn read_in(word: Word, numbers: &[u32], parents: &[u32], bytes: &[u8], list: &mut [u32]) {
+    cases_show::answered(call_words(word, numbers, bytes, list));
     cases_show::words(list);
-    if letter == b'u' {
-        cases_show::equal(parents, list);
+    match word {
+        Word::Unseal => cases_show::equal(parents, list),
+        _ => {}
     }
 }
 
@@ -94,10 +98,10 @@ fn read_in(letter: u8, numbers: &[u32], parents: &[u32], bytes: &[u8], list: &mu
 // unseal BYTES ROOM             the parents of the image, and how many of them are the tree's
 // ask BYTES ROOM NUMBER..       questions to the image
 // list BYTES ROOM NODE          the listing from a node
-fn read(letter: u8, numbers: &[u32], parents: &[u32], bytes: &[u8]) {
+fn read(word: Word, numbers: &[u32], parents: &[u32], bytes: &[u8]) {
     let mut list = [9u32; 65536];
     let n = room(numbers, 1, 65536);
-    read_in(letter, numbers, parents, bytes, &mut list[0..n]);
+    read_in(word, numbers, parents, bytes, &mut list[0..n]);
 }
 
 fn split_in(numbers: &[u32], pack: &[u8], starts: &mut [u32], sizes: &mut [u32]) {
@@ -128,37 +132,40 @@ fn view(numbers: &[u32], bytes: &[u8]) {
 }
 
 // check BYTES        the check of the image
-fn look_at(letter: u8, numbers: &[u32], parents: &[u32], bytes: &[u8]) {
-    match letter {
-        b'c' => cases_show::answered(parlaqen::plq_check_image(bytes)),
-        b'd' | b'u' | b'a' | b'l' => read(letter, numbers, parents, bytes),
-        b'n' => nodes(numbers, bytes),
-        b's' => split(numbers, bytes),
-        b'v' => view(numbers, bytes),
+fn look_at(word: Word, numbers: &[u32], parents: &[u32], bytes: &[u8]) {
+    match word {
+        Word::Check => cases_show::answered(parlaqen::plq_check_image(bytes)),
+        Word::Decode | Word::Unseal | Word::Ask | Word::List => read(word, numbers, parents, bytes),
+        Word::Nodes => nodes(numbers, bytes),
+        Word::Split => split(numbers, bytes),
+        Word::View => view(numbers, bytes),
         _ => {}
     }
 }
 
-fn look(letter: u8, numbers: &[u32], parents: &[u32], bytes: &[u8]) {
+fn look(word: Word, numbers: &[u32], parents: &[u32], bytes: &[u8]) {
     let n = room(numbers, 0, bytes.len());
-    look_at(letter, numbers, parents, &bytes[0..n]);
+    look_at(word, numbers, parents, &bytes[0..n]);
 }
 
-fn obey(letter: u8, numbers: &[u32], parents: &mut [u32], bytes: &mut [u8]) {
-    match letter {
-        b'p' | b'g' | b'b' | b'm' => cases_script::plant(letter, numbers, parents),
-        b'h' | b'f' | b'r' => cases_script::alter(letter, numbers, bytes),
-        b'e' | b'i' | b'j' => make(letter, numbers, parents, bytes),
-        _ => look(letter, numbers, parents, bytes),
+fn obey(word: Word, numbers: &[u32], parents: &mut [u32], bytes: &mut [u8]) {
+    match word {
+        Word::Parents | Word::Grow | Word::Branches | Word::Mixed => cases_script::plant(
+            word,
+            numbers,
+            parents,
+        ),
+        Word::Hold | Word::Flip | Word::Reseal => cases_script::alter(word, numbers, bytes),
+        Word::Encode | Word::Image | Word::Join => make(word, numbers, parents, bytes),
+        _ => look(word, numbers, parents, bytes),
     }
 }
 
-fn step(line: &[u8], parents: &mut [u32], bytes: &mut [u8])
-    requires { ⌜ 0 < length (now line) ⌝ }
-{
+fn step(line: &[u8], parents: &mut [u32], bytes: &mut [u8]) {
     let mut numbers = [0u32; 1024];
     let n = cases_script::numbers_of(line, &mut numbers);
-    obey(line[0], &numbers[0..n], parents, bytes);
+    let word = cases_script::word_of(line);
+    obey(word, &numbers[0..n], parents, bytes);
 }
 
 fn run(text: &[u8], parents: &mut [u32], bytes: &mut [u8]) {

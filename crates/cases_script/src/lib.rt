@@ -1,9 +1,14 @@
-// The lines of a script: a word, and decimal numbers, each behind a space. A number is kept as its lowest 32 bits: -1 is 4294967295.
-// One that a line lacks counts as 0, so that no line is wrong. What the lines are run on stands in `material`.
+// The lines of a script of cases, their words, and the trees and bytes that they are run on.
+// The lines of a script: a word, and decimal numbers, each after a space. A number is kept as its
+// lowest 32 bits: -1 is 4294967295. One that a line lacks counts as 0, so that no line is wrong.
+// The words are in `words`, and what the lines are run on in `material`.
 mod material;
+mod words;
 
 pub use material::alter;
 pub use material::plant;
+pub use words::Word;
+pub use words::word_of;
 ghost use Prim.Native.Nat.{_<_, _≤_};
 ghost use lib.ListN.{length};
 use std::num::wrapping_sub_u32;
@@ -30,12 +35,13 @@ pub fn line_end(text: &[u8], at: usize) -> usize
     if end < text.len() { end + 1 } else { end }
 }
 
-// One more digit behind a number: its value is its lowest four bits.
+// One more digit after a number: its value is its lowest four bits.
 fn with_digit(value: u32, x: u8) -> u32 {
-    ((value as u64 * 10 + (x % 16) as u64) % 4294967296) as u32
+    ((value as u64 * 10 + (x % 16) as u64) % 0x100000000) as u32
 }
 
-// The number whose digits begin at `at` and go on up to a byte below them, as a space or a line end.
+// The number whose digits begin at `at` and go on up to a byte below them, as a space or a line
+// end.
 fn digits_at(line: &[u8], at: usize) -> u32 {
     let mut value: u32 = 0;
     for i in at..line.len() {
@@ -78,7 +84,7 @@ pub fn number(numbers: &[u32], i: usize) -> u32 {
     if i < numbers.len() { numbers[i] } else { 0 }
 }
 
-// The same as a count: one below 0 is as far below 2^64.
+// Number i, from 0, as a count: one below 0 is as far below 2^64.
 pub fn size(numbers: &[u32], i: usize) -> usize {
     let x = number(numbers, i);
     if x < 2147483648 {
@@ -88,7 +94,7 @@ pub fn size(numbers: &[u32], i: usize) -> usize {
     }
 }
 
-// The same, cut to what there is.
+// Number i, from 0, as a count, cut to what there is.
 pub fn room(numbers: &[u32], i: usize, most: usize) -> usize
     ensures { λ r. ⌜ r ≤ most ⌝ }
 {
@@ -120,7 +126,8 @@ pub fn put_bytes(numbers: &[u32], list: &mut [u8]) -> usize
     i
 }
 
-// Writes the numbers behind the first so many as signed ones, as many as the list holds; answers how many.
+// Writes the numbers after the first so many as signed ones, as many as the list holds; answers how
+// many.
 pub fn put_signed(numbers: &[u32], skip: usize, list: &mut [i32]) -> usize
     ensures { λ r. ⌜ r ≤ length (now (list .exit)) ⌝ }
 {

@@ -3,21 +3,24 @@ use crate::number;
 use crate::put_bytes;
 use crate::room;
 use crate::size;
+use crate::words::Word;
 use std::num::wrapping_add_u32;
 
-// How much greater the parent of a node is than that of the node before it, in the mixed tree: less than 1 on the average, so that the tree is not deep.
+// How much greater the parent of a node is than that of the node before it, in the mixed tree: less
+// than 1 on the average, so that the tree is not deep.
 const STEPS: [u32; 8] = [0, 0, 0, 0, 1, 0, 2, 3];
 
 fn low(x: usize) -> u32 {
-    (x % 4294967296) as u32
+    (x % 0x100000000) as u32
 }
 
 fn least(x: u32, most: u32) -> u32 {
     if x < most { x } else { most }
 }
 
-// The parent of the node that has i nodes before it, in a tree of so many branches side by side below the root.
-// Of the nodes with `both` or more before them there is one to a level: only the last branch goes on.
+// The parent of the node that has i nodes before it, in a tree of so many branches side by side
+// below the root. Of the nodes with `both` or more before them there is one to a level: only the
+// last branch goes on.
 fn branched(i: u32, branches: u32, both: u32) -> u32 {
     if both <= i {
         return i;
@@ -28,8 +31,9 @@ fn branched(i: u32, branches: u32, both: u32) -> u32 {
     least(i, 1)
 }
 
-// The same in the mixed tree, where p is the parent of the node before: first a path, then steps by chance, one node with some thousand children,
-// and a leap over nodes that get none.
+// The parent of the node that has i nodes before it, in the mixed tree, where p is the parent of
+// the node before: first a path, then steps by chance, one node with some thousand children, and a
+// leap over nodes that get none.
 fn mixed(i: u32, p: u32, seed: usize) -> u32 {
     if i <= 20 {
         return i;
@@ -45,16 +49,17 @@ fn mixed(i: u32, p: u32, seed: usize) -> u32 {
     least(wrapping_add_u32(p, STEPS[seed % 8]), i)
 }
 
-// The same by the first letter of the line that asks for the tree:
+// The parent of the node that has i nodes before it, in the tree that the line asks for:
 // parents PARENT..         these parents
-// grow HANDLE              a path of so many nodes, whose last has all later nodes as children: a star where there is one
+// grow HANDLE              a path of so many nodes, whose last has all later nodes as children:
+//                          a star where there is one
 // branches COUNT BOTH      branches side by side
 // mixed                    the mixed tree
-fn parent(letter: u8, numbers: &[u32], i: usize, p: u32, seed: usize) -> u32 {
-    match letter {
-        b'p' => number(numbers, i),
-        b'g' => least(low(i), number(numbers, 0)),
-        b'b' => branched(low(i), number(numbers, 0), number(numbers, 1)),
+fn parent(word: Word, numbers: &[u32], i: usize, p: u32, seed: usize) -> u32 {
+    match word {
+        Word::Parents => number(numbers, i),
+        Word::Grow => least(low(i), number(numbers, 0)),
+        Word::Branches => branched(low(i), number(numbers, 0), number(numbers, 1)),
         _ => mixed(low(i), p, seed),
     }
 }
@@ -64,11 +69,11 @@ fn stirred(seed: usize) -> usize {
 }
 
 // Fills the whole list: its first entries are the smaller trees of the same kind.
-pub fn plant(letter: u8, numbers: &[u32], parents: &mut [u32]) {
+pub fn plant(word: Word, numbers: &[u32], parents: &mut [u32]) {
     let mut p: u32 = 0;
     let mut seed: usize = 1;
     for i in 0..parents.len() {
-        p = parent(letter, numbers, i, p, seed);
+        p = parent(word, numbers, i, p, seed);
         parents[i] = p;
         seed = stirred(seed);
     }
@@ -105,16 +110,16 @@ fn reseal(numbers: &[u32], bytes: &mut [u8]) {
     }
 }
 
-// hold BYTE..              these bytes, and 9s behind them
+// hold BYTE..              these bytes, and 9s after them
 // flip PLACE BITS          changes bits of a byte
 // reseal BLOCKS            makes the sums of so many blocks right
-// Before a string or an image is made there are 9s as far as its room goes, and zeros behind.
-pub fn alter(letter: u8, numbers: &[u32], bytes: &mut [u8]) {
-    match letter {
-        b'h' => hold(numbers, bytes),
-        b'f' => flip(numbers, bytes),
-        b'r' => reseal(numbers, bytes),
-        b'e' | b'i' => clear(numbers, bytes),
+// Before a string or an image is made there are 9s as far as its room goes, and zeros after.
+pub fn alter(word: Word, numbers: &[u32], bytes: &mut [u8]) {
+    match word {
+        Word::Hold => hold(numbers, bytes),
+        Word::Flip => flip(numbers, bytes),
+        Word::Reseal => reseal(numbers, bytes),
+        Word::Encode | Word::Image => clear(numbers, bytes),
         _ => {}
     }
 }

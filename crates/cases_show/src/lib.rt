@@ -1,11 +1,12 @@
-// What a call came to, as text for the program that runs the cases: a lent list entry by entry, or, where it is long, how many 9s it has and two sums.
+// What a call answered and wrote, as text: a list by its entries, or, if long, by counts and sums.
 use meaning::Answer;
 use std::num::wrapping_add_u32;
 
 // The longest list that is shown entry by entry.
 const MOST_SHOWN: usize = 300;
 
-// How many of some numbers are 9, and two sums, made as those of a block are made of its words: they stand for a long list.
+// How many of some numbers are 9, and two sums, made as those of a block are made of its words:
+// they are shown for a long list.
 pub struct Digest {
     pub nines: u32,
     pub s: u32,
@@ -54,7 +55,7 @@ fn after(d: Digest, x: u32) -> Digest {
     }
 }
 
-// The numbers so far, and those of a list behind them.
+// The numbers so far, and those of a further list.
 pub fn after_words(before: Digest, list: &[u32]) -> Digest {
     let mut d = before;
     for i in 0..list.len() {
@@ -111,7 +112,7 @@ pub fn bytes(list: &[u8]) {
     end();
 }
 
-// How many entries of a list stand at the same places of another.
+// How many entries of a list are at the same places of another.
 pub fn equal(a: &[u32], b: &[u32]) {
     let mut k: u32 = 0;
     let mut i: usize = 0;

@@ -1,7 +1,8 @@
-// Of one string of an image: the ones it has, and its end.
+// Of a whole string of an image: m ones, the last bit one, and zeros after it.
 ghost use mathlib.Core.Path.{_≡_};
 ghost use Prim.Native.Nat.{_+_, _≤_, _*_};
 ghost use lib.ListN.{length};
+ghost use Rattle.theory.specs.Bounds.{mostBlock};
 ghost use Rattle.image_string.specs.Decides.{Decides};
 ghost use Rattle.image_string.specs.Parts.{Unused, Counted};
 ghost use Rattle.meaning.specs.Strings.{ones};
@@ -13,7 +14,8 @@ use image_string::all_zero;
 use image_string::string_bit;
 use image_words::word;
 
-// Of the 4,000 bits from byte `at` on, are those after the first `used` zero: the rest of a byte, then whole bytes?
+// Of the 4,000 bits from byte `at` on, are those after the first `used` zero: the rest of a byte,
+// then whole bytes?
 fn rest_zero(b: &[u8], at: usize, used: usize) -> bool
     requires { ⌜ used ≤ 4000 ⌝ }
     requires { ⌜ at + 500 ≤ length (now b) ⌝ }
@@ -29,11 +31,12 @@ fn rest_zero(b: &[u8], at: usize, used: usize) -> bool
     all_zero(b, at + whole + 1, at + 500)
 }
 
-// Are there zeros after the last of the n bits of a string whose blocks have the number of earlier ones?
+// Are there zeros after the last of the n bits of a string whose blocks have the number of earlier
+// ones?
 fn padding_right(b: &[u8], first: usize, n: usize) -> bool
     requires { ⌜ 1 ≤ n ⌝ }
     requires { ⌜ n ≤ 65536 ⌝ }
-    requires { ⌜ first ≤ 53 ⌝ }
+    requires { ⌜ first ≤ mostBlock ⌝ }
     requires { ⌜ 512 * (first + stringBlocks n) ≤ length (now b) ⌝ }
     requires { ⌜ Counted (now b) first n ⌝ }
     ensures { λ r. ⌜ Decides r (CountsAndPadding (now (b .entry)) first (stringIn (now (b .entry)) first 0 n)) ⌝ }
@@ -42,11 +45,12 @@ fn padding_right(b: &[u8], first: usize, n: usize) -> bool
     rest_zero(b, 512 * (first + last) + 4, n - 4000 * last)
 }
 
-// How many of the n bits of the string whose blocks begin at block `first` are one: what its last block counts before it, and the ones in it.
+// How many of the n bits of the string whose blocks begin at block `first` are one: what its last
+// block counts before it, and the ones in it.
 fn ones_in_string(b: &[u8], first: usize, n: usize) -> u32
     requires { ⌜ 1 ≤ n ⌝ }
     requires { ⌜ n ≤ 65536 ⌝ }
-    requires { ⌜ first ≤ 53 ⌝ }
+    requires { ⌜ first ≤ mostBlock ⌝ }
     requires { ⌜ 512 * (first + stringBlocks n) ≤ length (now b) ⌝ }
     requires { ⌜ Counted (now b) first n ⌝ }
     ensures { λ r. ⌜ r ≡ ones (stringIn (now (b .entry)) first 0 n) ⌝ }
@@ -59,7 +63,7 @@ fn ones_in_string(b: &[u8], first: usize, n: usize) -> u32
 fn string_ended(b: &[u8], first: usize, n: usize, m: u32) -> bool
     requires { ⌜ 1 ≤ n ⌝ }
     requires { ⌜ n ≤ 65536 ⌝ }
-    requires { ⌜ first ≤ 53 ⌝ }
+    requires { ⌜ first ≤ mostBlock ⌝ }
     requires { ⌜ 512 * (first + stringBlocks n) ≤ length (now b) ⌝ }
     requires { ⌜ Counted (now b) first n ⌝ }
     ensures { λ r. ⌜ Decides r (Ended m (stringIn (now (b .entry)) first 0 n)) ⌝ }
@@ -70,11 +74,12 @@ fn string_ended(b: &[u8], first: usize, n: usize, m: u32) -> bool
     string_bit(b, first, n - 1) == 1
 }
 
-// Of a string of n bits whose blocks count right: does it end in zeros, and has it m ones, the last bit among them?
+// Of a string of n bits whose blocks count right: does it end in zeros, and has it m ones, the last
+// bit among them?
 pub fn string_right(b: &[u8], first: usize, n: usize, m: u32) -> bool
     requires { ⌜ 1 ≤ n ⌝ }
     requires { ⌜ n ≤ 65536 ⌝ }
-    requires { ⌜ first ≤ 53 ⌝ }
+    requires { ⌜ first ≤ mostBlock ⌝ }
     requires { ⌜ 512 * (first + stringBlocks n) ≤ length (now b) ⌝ }
     requires { ⌜ Counted (now b) first n ⌝ }
     ensures { λ r. ⌜ Decides r (StringRight (now (b .entry)) first n m) ⌝ }

@@ -1,16 +1,12 @@
-// The whole check of an image.
+// The whole check of an image: sizes, sums, then the stages; what it finds is an enum.
 ghost use mathlib.Core.Path.{_≡_};
-ghost use Prim.Native.Nat.{_≤_};
-ghost use lib.ListN.{length};
-ghost use Rattle.theory.specs.Stages.{Header};
-ghost use Rattle.image_found.specs.Checked.{checked, layoutIn};
+ghost use Rattle.image_found.specs.Checked.{checked};
 ghost use Rattle.image_found.specs.declared.Checked.the-variants.{Refused};
-use check_stages::stages_pass;
+use check_header::HeaderFound;
+use check_header::read_header;
+use check_stages::strings_pass;
 use check_sums::wrong_block;
 use image_found::Checked;
-use image_layout::Layout;
-use image_layout::layout_of;
-use image_words::word;
 use meaning::NOT_IMAGE;
 use meaning::Refusal;
 use meaning::WRONG_SIZE;
@@ -26,15 +22,6 @@ fn refused(code: u32, place: u32) -> Checked
     })
 }
 
-// The layout that a right header gives.
-fn layout_in(b: &[u8]) -> Layout
-    requires { ⌜ 512 ≤ length (now b) ⌝ }
-    requires { ⌜ Header (now b) ⌝ }
-    ensures { λ r. ⌜ r ≡ layoutIn (now (b .entry)) ⌝ }
-{
-    layout_of(word(b, 4) as usize, word(b, 8) as usize)
-}
-
 // The whole check, cheapest first: size, blocks, then the header, the strings and their samples.
 pub fn check(b: &[u8]) -> Checked
     ensures { λ r. ⌜ r ≡ checked (now (b .entry)) ⌝ }
@@ -47,8 +34,12 @@ pub fn check(b: &[u8]) -> Checked
     if wrong < blocks {
         return refused(WRONG_SUMS, wrong as u32);
     }
-    if !stages_pass(b, blocks) {
+    let header = read_header(b, blocks);
+    let HeaderFound::Right(layout) = header else {
         return refused(NOT_IMAGE, 0);
+    };
+    if strings_pass(b, layout) {
+        return Checked::Sound(layout);
     }
-    Checked::Sound(layout_in(b))
+    refused(NOT_IMAGE, 0)
 }

@@ -7,17 +7,24 @@ use native.Mathlib.Omega.{arith}
 use Rattle.meaning.specs.Strings.{Bit}
 use Rattle.meaning.specs.Bytes.{value, bitAt}
 use Rattle.meaning.specs.Image.{stringIn}
-use Rattle.theory.specs.Layout.{bitPlace}
+use Rattle.theory.specs.Layout.{bitPlace, wordAt}
 use Rattle.theory.specs.Stages.{InStep}
 use Rattle.theory.proofs.Bits.{I≢O}
 use Rattle.theory.proofs.TreeImages.{length-stringIn}
 use Rattle.bits_byte.proofs.Values.{is-O, is-I}
-use Rattle.image_string.specs.Parts.{onesTo}
+use Rattle.image_string.specs.Parts.{Counted, onesTo}
 use Rattle.image_string.proofs.Ones.{onesTo-take, onesTo-mono, onesTo-block, string-at}
 use Rattle.check_runs_words.specs.Steps.{StepAt}
 use Rattle.check_samples.specs.Samples.{Placed}
 use Rattle.check_runs_samples.specs.Ahead.{Ahead}
 use Rattle.check_runs.specs.Steps.{StepWithin}
+
+-- what the block after block j counts
+pub next-count : (bytes : List ℕ) (n j : ℕ) → Counted bytes 1 n → 4000 * (j + 1) < n → wordAt bytes (512 * (1 + j + 1)) ≡ onesTo bytes 1 (4000 * j + 4000)
+next-count bytes n j counted h =
+    ap (wordAt bytes) (let e : 512 * (1 + j + 1) ≡ 512 * (1 + (j + 1)) = omega arith in e)
+    ∙ counted (j + 1) (omega arith)
+    ∙ ap (onesTo bytes 1) (let e : 4000 * (j + 1) ≡ 4000 * j + 4000 = omega arith in e)
 
 module _ (bytes : List ℕ) (zeros : ℕ) where
   -- a block
@@ -39,12 +46,13 @@ module _ (bytes : List ℕ) (zeros : ℕ) where
     block-step s p h =
         omega (arith, s (4000 * j + p) (omega arith) (omega arith), onesTo-block bytes 1 j p (omega arith), onesTo-block bytes zeros j p (omega arith))
 
-  -- a block behind which R1 has no more than R0 before it
+  -- a block after which R1 has no more than R0 before it
   pub step-behind : (a b : ℕ) → onesTo bytes 1 b ≤ onesTo bytes zeros a → StepWithin bytes zeros a b
   step-behind a b e p h l = omega (arith, onesTo-mono bytes 1 p b (omega arith), onesTo-mono bytes zeros a p (omega arith))
 
   -- a block where R0's samples are ahead
-  pub step-sampled : (s1 s0 m k end by a b : ℕ) → Placed bytes s1 1 m → Placed bytes s0 zeros m → k ≡ onesTo bytes 1 a → end ≡ onesTo bytes 1 b → Ahead bytes s1 s0 k end m by → StepWithin bytes zeros a b
+  pub step-sampled : (s1 s0 m k end by a b : ℕ) → Placed bytes s1 1 m → Placed bytes s0 zeros m → k ≡ onesTo bytes 1 a → end ≡ onesTo bytes 1 b → Ahead bytes s1 s0 k end m by
+      → StepWithin bytes zeros a b
   step-sampled s1 s0 m k end by a b placed1 placed0 ek ee ahead p h l =
       let more = onesTo-mono bytes 1 a p h in
       let most = onesTo-mono bytes 1 p b (omega arith) in

@@ -1,12 +1,14 @@
-// Are the runs of the two strings of an image in step?
+// The runs of R1 and R0 in step: blocks passed over by counts or samples, else word by word.
 ghost use mathlib.Core.Path.{_≡_};
-ghost use Prim.Native.Nat.{_+_, _/_, _≤_, _*_};
+ghost use Prim.Native.Nat.{_+_, _/_, _<_, _≤_, _*_};
 ghost use lib.ListN.{length};
 ghost use Rattle.image_string.specs.Decides.{Decides};
 ghost use Rattle.check_runs_words.specs.Steps.{StepAt};
 ghost use Rattle.meaning.specs.Image.{stringIn};
+ghost use Rattle.theory.specs.Bounds.{mostBlock, mostOnes};
 ghost use Rattle.theory.specs.Layout.{wordAt};
-ghost use Rattle.theory.specs.Stages.{InStep, r0Block, r1Samples, blocksOfSamples};
+ghost use Rattle.theory.specs.Stages.{InStep};
+ghost use Rattle.image_layout.specs.Fits.{LaidOut};
 ghost use Rattle.image_string.specs.Parts.{Counted, onesTo};
 ghost use Rattle.check_samples.specs.Samples.{Placed};
 ghost use Rattle.check_runs.specs.Steps.{StepWithin};
@@ -14,18 +16,20 @@ use bits_count::ones_without;
 use check_runs_samples::samples_ahead;
 use check_runs_words::bytes_in_step;
 use check_runs_words::word_in_step;
+use image_layout::Layout;
+use image_layout::last_block;
 use image_string::string_bit;
 use image_words::word;
 
-// Of n bits of R1 from byte `at1` on, which `ones1` ones come before, and n of R0 from `at0` on, which `ones0` come before: is R1 in step with R0 at each of them? Eight bytes at a time.
+// Of n bits of R1 from byte `at1` on, which `ones1` ones come before, and n of R0 from `at0` on,
+// which `ones0` come before: is R1 in step with R0 at each of them? Eight bytes at a time.
 fn words_in_step(b: &[u8], at1: usize, at0: usize, n: usize, ones1: usize, ones0: usize) -> bool
-    requires { ⌜ at1 ≤ 38000 ⌝ }
-    requires { ⌜ at0 ≤ 38000 ⌝ }
+    requires { ⌜ length (now b) ≤ 512 * mostBlock ⌝ }
     requires { ⌜ n ≤ 4000 ⌝ }
     requires { ⌜ at1 + (n + 7) / 8 ≤ length (now b) ⌝ }
     requires { ⌜ at0 + (n + 7) / 8 ≤ length (now b) ⌝ }
-    requires { ⌜ ones1 ≤ 65000 ⌝ }
-    requires { ⌜ ones0 ≤ 65000 ⌝ }
+    requires { ⌜ ones1 + n ≤ mostOnes ⌝ }
+    requires { ⌜ ones0 + n ≤ mostOnes ⌝ }
     ensures { λ r. ⌜ Decides r (StepAt (now (b .entry)) at1 at0 n ones1 ones0) ⌝ }
 {
     let mut before1 = ones1;
@@ -47,8 +51,7 @@ fn words_in_step(b: &[u8], at1: usize, at0: usize, n: usize, ones1: usize, ones0
 // Is R1 in step with R0 in the first n bits of their blocks number j?
 fn block_in_step(b: &[u8], zeros: usize, j: usize, n: usize) -> bool
     requires { ⌜ n ≤ 4000 ⌝ }
-    requires { ⌜ j ≤ 16 ⌝ }
-    requires { ⌜ zeros ≤ 53 ⌝ }
+    requires { ⌜ length (now b) ≤ 512 * mostBlock ⌝ }
     requires { ⌜ 512 * (1 + j + 1) ≤ length (now b) ⌝ }
     requires { ⌜ 512 * (zeros + j + 1) ≤ length (now b) ⌝ }
     requires { ⌜ wordAt (now b) (512 * (1 + j)) ≡ onesTo (now b) 1 (4000 * j) ⌝ }
@@ -67,72 +70,55 @@ fn block_in_step(b: &[u8], zeros: usize, j: usize, n: usize) -> bool
     )
 }
 
-// The same of a whole block of R1, behind which another comes; both strings have m ones, and their samples begin at these blocks.
-fn full_block_in_step(
-    b: &[u8],
-    zeros: usize,
-    j: usize,
-    m: usize,
-    samples1: usize,
-    samples0: usize,
-) -> bool
-    requires { ⌜ j ≤ 16 ⌝ }
-    requires { ⌜ zeros ≤ 53 ⌝ }
-    requires { ⌜ m ≤ 65536 ⌝ }
-    requires { ⌜ samples1 ≤ 53 ⌝ }
-    requires { ⌜ samples0 ≤ 53 ⌝ }
-    requires { ⌜ 512 * (1 + j + 2) ≤ length (now b) ⌝ }
-    requires { ⌜ 512 * (zeros + j + 1) ≤ length (now b) ⌝ }
-    requires { ⌜ 512 * (samples1 + blocksOfSamples m) ≤ length (now b) ⌝ }
-    requires { ⌜ 512 * (samples0 + blocksOfSamples m) ≤ length (now b) ⌝ }
-    requires { ⌜ wordAt (now b) (512 * (1 + j)) ≡ onesTo (now b) 1 (4000 * j) ⌝ }
-    requires { ⌜ wordAt (now b) (512 * (1 + j + 1)) ≡ onesTo (now b) 1 (4000 * j + 4000) ⌝ }
-    requires { ⌜ wordAt (now b) (512 * (zeros + j)) ≡ onesTo (now b) zeros (4000 * j) ⌝ }
-    requires { ⌜ Placed (now b) samples1 1 m ⌝ }
-    requires { ⌜ Placed (now b) samples0 zeros m ⌝ }
-    ensures { λ r. ⌜ Decides r (StepWithin (now (b .entry)) zeros (4000 * j) (4000 * j + 4000)) ⌝ }
+// Is R1 in step with R0 in block number j of both strings, where R1 has another block after it?
+fn full_block_in_step(b: &[u8], layout: Layout, j: usize) -> bool
+    requires { ⌜ LaidOut (now b) layout ⌝ }
+    requires { ⌜ layout .runs ≤ 65536 ⌝ }
+    requires { ⌜ 4000 * (j + 1) < layout .nodes ⌝ }
+    requires { ⌜ Counted (now b) 1 (layout .nodes) ⌝ }
+    requires { ⌜ Counted (now b) (layout .«r0_block») (layout .nodes + 1) ⌝ }
+    requires { ⌜ Placed (now b) (layout .«r1_samples») 1 (layout .runs) ⌝ }
+    requires { ⌜ Placed (now b) (layout .«r0_samples») (layout .«r0_block») (layout .runs) ⌝ }
+    ensures { λ r. ⌜ Decides r (StepWithin (now (b .entry)) (layout .«r0_block») (4000 * j) (4000 * j + 4000)) ⌝ }
 {
+    let zeros = layout.r0_block as usize;
     let end = word(b, 512 * (1 + j + 1));
-    // then R1 has no more behind the block than R0 before it
+    // then R1 has no more ones after the block than R0 before it
     if end <= word(b, 512 * (zeros + j)) {
         return true;
     }
     let before = word(b, 512 * (1 + j)) as usize;
     // one in 256 ones is looked at
-    if samples_ahead(b, samples1, samples0, before, end as usize, m, 4) {
+    if samples_ahead(b, layout, before, end as usize, 4) {
         return true;
     }
     // one in 64
-    if samples_ahead(b, samples1, samples0, before, end as usize, m, 1) {
+    if samples_ahead(b, layout, before, end as usize, 1) {
         return true;
     }
     block_in_step(b, zeros, j, 4000)
 }
 
-// Are the runs of the two strings in step? The first bit of R1 is one, and before its last bit R1 never has more ones behind it than R0. Both have m ones, and their samples begin at these blocks.
-pub fn in_step(b: &[u8], zeros: usize, n: usize, m: usize, samples1: usize, samples0: usize) -> bool
-    requires { ⌜ 1 ≤ n ⌝ }
-    requires { ⌜ n ≤ 65535 ⌝ }
-    requires { ⌜ zeros ≡ r0Block n ⌝ }
-    requires { ⌜ 512 * r1Samples n ≤ length (now b) ⌝ }
-    requires { ⌜ Counted (now b) 1 n ⌝ }
-    requires { ⌜ Counted (now b) zeros (n + 1) ⌝ }
-    requires { ⌜ m ≤ 65536 ⌝ }
-    requires { ⌜ samples1 ≤ 53 ⌝ }
-    requires { ⌜ samples0 ≤ 53 ⌝ }
-    requires { ⌜ 512 * (samples1 + blocksOfSamples m) ≤ length (now b) ⌝ }
-    requires { ⌜ 512 * (samples0 + blocksOfSamples m) ≤ length (now b) ⌝ }
-    requires { ⌜ Placed (now b) samples1 1 m ⌝ }
-    requires { ⌜ Placed (now b) samples0 zeros m ⌝ }
-    ensures { λ r. ⌜ Decides r (InStep (stringIn (now (b .entry)) 1 0 n) (stringIn (now (b .entry)) zeros 0 (n + 1))) ⌝ }
+// Are the runs of the two strings in step? The first bit of R1 is one, and before its last bit R1
+// never has more ones than R0.
+pub fn in_step(b: &[u8], layout: Layout) -> bool
+    requires { ⌜ LaidOut (now b) layout ⌝ }
+    requires { ⌜ layout .runs ≤ 65536 ⌝ }
+    requires { ⌜ Counted (now b) 1 (layout .nodes) ⌝ }
+    requires { ⌜ Counted (now b) (layout .«r0_block») (layout .nodes + 1) ⌝ }
+    requires { ⌜ Placed (now b) (layout .«r1_samples») 1 (layout .runs) ⌝ }
+    requires { ⌜ Placed (now b) (layout .«r0_samples») (layout .«r0_block») (layout .runs) ⌝ }
+    ensures { λ r. ⌜ Decides r (InStep (stringIn (now (b .entry)) 1 0 (layout .nodes)) (stringIn (now (b .entry)) (layout .«r0_block») 0 (layout .nodes + 1))) ⌝ }
 {
+    let n = layout.nodes as usize;
+    let zeros = layout.r0_block as usize;
     if string_bit(b, 1, 0) == 0 {
         return false;
     }
-    let last = (n - 1) / 4000;
+    let last = last_block(n);
     let mut j: usize = 0;
     while j < last {
-        if !full_block_in_step(b, zeros, j, m, samples1, samples0) {
+        if !full_block_in_step(b, layout, j) {
             return false;
         }
         j += 1;

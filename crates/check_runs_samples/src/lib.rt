@@ -1,30 +1,27 @@
-// Runs of two strings in step, told by their samples.
+// R1 and R0 in step through a whole block, shown by their samples alone.
 ghost use Prim.Native.Nat.{_+_, _*_, _≤_};
-ghost use lib.ListN.{length};
-ghost use Rattle.theory.specs.Stages.{blocksOfSamples};
+ghost use Rattle.image_layout.specs.Fits.{LaidOut};
 ghost use Rattle.check_runs_samples.specs.Ahead.{Tells, Ahead};
+use image_layout::Layout;
+use image_layout::sample_at;
 use image_words::word;
 
-// Of R1's ones after the first `before` up to number `end`, of m: has R0, where the one of a sample stands, the one of its sample `by` further on? One in `by` samples is looked at; R0 is then ahead by more than the ones between two that are.
-pub fn samples_ahead(
-    b: &[u8],
-    samples1: usize,
-    samples0: usize,
-    before: usize,
-    end: usize,
-    m: usize,
-    by: usize,
-) -> bool
+// Of R1's ones after the first `before` up to number `end`: has R0, where the one of a sample is,
+// the
+// one of its sample `by` further on? One in `by` samples is looked at; R0 is then ahead by more
+// than
+// the ones between two that are.
+pub fn samples_ahead(b: &[u8], layout: Layout, before: usize, end: usize, by: usize) -> bool
+    requires { ⌜ LaidOut (now b) layout ⌝ }
+    requires { ⌜ layout .runs ≤ 65536 ⌝ }
     requires { ⌜ end ≤ 70000 ⌝ }
-    requires { ⌜ m ≤ 65536 ⌝ }
     requires { ⌜ 1 ≤ by ⌝ }
     requires { ⌜ by ≤ 4 ⌝ }
-    requires { ⌜ samples1 ≤ 53 ⌝ }
-    requires { ⌜ samples0 ≤ 53 ⌝ }
-    requires { ⌜ 512 * (samples1 + blocksOfSamples m) ≤ length (now b) ⌝ }
-    requires { ⌜ 512 * (samples0 + blocksOfSamples m) ≤ length (now b) ⌝ }
-    ensures { λ r. ⌜ Tells r (Ahead (now (b .entry)) samples1 samples0 before end m by) ⌝ }
+    ensures { λ r. ⌜ Tells r (Ahead (now (b .entry)) (layout .«r1_samples») (layout .«r0_samples») before end (layout .runs) by) ⌝ }
 {
+    let samples1 = layout.r1_samples as usize;
+    let samples0 = layout.r0_samples as usize;
+    let m = layout.runs as usize;
     if before == 0 {
         return false;
     }
@@ -34,8 +31,8 @@ pub fn samples_ahead(
     }
     let mut s = (before - 1) / 64;
     while s < to {
-        let own = word(b, 512 * (samples1 + s / 126) + 4 * (s % 126));
-        if own < word(b, 512 * (samples0 + (s + by) / 126) + 4 * ((s + by) % 126)) {
+        let own = word(b, sample_at(samples1, s));
+        if own < word(b, sample_at(samples0, s + by)) {
             return false;
         }
         s += by;

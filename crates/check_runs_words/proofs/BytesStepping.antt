@@ -1,4 +1,4 @@
--- Two strings in step: no bits, a bit more, some passed over, and bytes behind bytes.
+-- Two strings in step: no bits, a bit more, some passed over, and bytes after bytes.
 use mathlib.Core.Path.{_≡_, ap}
 use mathlib.Core.List.{List}
 use Prim.Native.Nat.{ℕ, _+_, _-_, _*_, _≤_}
@@ -24,7 +24,7 @@ module _ (bytes : List ℕ) (at1 at0 k1 k0 : ℕ) where
       let k = n - p in
       omega (arith, ones-cut bytes (8 * at1) p k, ap (λ m. ones (bitsFrom bytes (8 * at1) m)) (let f : p + k ≡ n = omega arith in f))
 
-  -- i bytes behind, n bits more
+  -- after i bytes, n bits more
   module _ (i c1 c0 : ℕ) (e1 : c1 ≡ k1 + ones (bitsFrom bytes (8 * at1) (8 * i))) (e0 : c0 ≡ k0 + ones (bitsFrom bytes (8 * at0) (8 * i))) where
     pub step-join : (n m : ℕ) → 8 * i + n ≡ m → StepAt bytes at1 at0 (8 * i) k1 k0 → StepAt bytes (at1 + i) (at0 + i) n c1 c0 → StepAt bytes at1 at0 m k1 k0
     step-join n m e before after p h = elim (decLt p (8 * i)) [

@@ -1,4 +1,5 @@
--- Eight bytes in step that need not be looked at bit by bit: the ones that both strings have move neither ahead.
+-- Eight bytes in step that need not be looked at bit by bit: the ones that both strings have move
+-- neither ahead.
 use mathlib.Core.Path.{_≡_, sym, ap, _∙_}
 use mathlib.Core.List.{List, [], _∷_}
 use Prim.Native.Nat.{ℕ, zero, suc, _+_, _*_, _≤_}
@@ -22,7 +23,7 @@ gain (O ∷ xs) (I ∷ ys) (suc p) h = omega (arith, gain xs ys p (omega arith))
 gain (I ∷ xs) (O ∷ ys) (suc p) h = omega (arith, gain xs ys p (omega arith))
 gain (I ∷ xs) (I ∷ ys) (suc p) h = omega (arith, gain xs ys p (omega arith))
 
--- what one gains on the other and the other on it, behind them
+-- what one gains on the other and the other on it, after them
 apart : (xs ys : List Bit) → length xs ≡ length ys → ones xs + ones (without ys xs) ≡ ones ys + ones (without xs ys)
 apart [] [] h = omega arith
 apart [] (y ∷ ys) h = absurd (omega arith)

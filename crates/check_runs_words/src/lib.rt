@@ -1,8 +1,9 @@
-// Two strings in step, of eight bytes, passed over by the ones in them where those tell enough.
+// R1 and R0 in step in up to eight bytes: by the number of ones where it suffices, else by bits.
 ghost use mathlib.Core.Path.{_≡_};
 ghost use Prim.Native.Nat.{_+_, _*_, _/_, _≤_};
 ghost use lib.ListN.{length};
 ghost use Rattle.meaning.specs.Strings.{ones};
+ghost use Rattle.theory.specs.Bounds.{mostBlock, mostOnes};
 ghost use Rattle.meaning.specs.Bytes.{bitsFrom};
 ghost use Rattle.image_string.specs.Decides.{Decides};
 ghost use Rattle.check_runs_words.specs.Steps.{StepAt};
@@ -10,15 +11,15 @@ ghost use Rattle.bits_count.specs.Without.{without};
 use bits_byte::bit_at;
 use bits_byte::ones_in_byte;
 
-// Of n bits of R1 from byte `at1` on, which `ones1` ones come before, and n of R0 from `at0` on, which `ones0` come before: is R1 in step with R0 at each of them? Bit by bit.
+// Of n bits of R1 from byte `at1` on, which `ones1` ones come before, and n of R0 from `at0` on,
+// which `ones0` come before: is R1 in step with R0 at each of them? Bit by bit.
 fn bits_in_step(b: &[u8], at1: usize, at0: usize, n: usize, ones1: usize, ones0: usize) -> bool
-    requires { ⌜ at1 ≤ 40000 ⌝ }
-    requires { ⌜ at0 ≤ 40000 ⌝ }
+    requires { ⌜ length (now b) ≤ 512 * mostBlock ⌝ }
     requires { ⌜ n ≤ 8 ⌝ }
     requires { ⌜ at1 + (n + 7) / 8 ≤ length (now b) ⌝ }
     requires { ⌜ at0 + (n + 7) / 8 ≤ length (now b) ⌝ }
-    requires { ⌜ ones1 ≤ 70000 ⌝ }
-    requires { ⌜ ones0 ≤ 70000 ⌝ }
+    requires { ⌜ ones1 + n ≤ mostOnes ⌝ }
+    requires { ⌜ ones0 + n ≤ mostOnes ⌝ }
     ensures { λ r. ⌜ Decides r (StepAt (now (b .entry)) at1 at0 n ones1 ones0) ⌝ }
 {
     let mut before1 = ones1;
@@ -37,12 +38,11 @@ fn bits_in_step(b: &[u8], at1: usize, at0: usize, n: usize, ones1: usize, ones0:
 
 // The same of a byte, where R1 has `more` ones in it.
 fn byte_in_step(b: &[u8], at1: usize, at0: usize, ones1: usize, ones0: usize, more: usize) -> bool
-    requires { ⌜ at1 ≤ 40000 ⌝ }
-    requires { ⌜ at0 ≤ 40000 ⌝ }
+    requires { ⌜ length (now b) ≤ 512 * mostBlock ⌝ }
     requires { ⌜ at1 + 1 ≤ length (now b) ⌝ }
     requires { ⌜ at0 + 1 ≤ length (now b) ⌝ }
-    requires { ⌜ ones1 ≤ 70000 ⌝ }
-    requires { ⌜ ones0 ≤ 70000 ⌝ }
+    requires { ⌜ ones1 + 8 ≤ mostOnes ⌝ }
+    requires { ⌜ ones0 + 8 ≤ mostOnes ⌝ }
     requires { ⌜ more ≡ ones (bitsFrom (now b) (8 * at1) 8) ⌝ }
     ensures { λ r. ⌜ Decides r (StepAt (now (b .entry)) at1 at0 8 ones1 ones0) ⌝ }
 {
@@ -55,13 +55,12 @@ fn byte_in_step(b: &[u8], at1: usize, at0: usize, ones1: usize, ones0: usize, mo
 
 // The same of n bits, byte by byte.
 pub fn bytes_in_step(b: &[u8], at1: usize, at0: usize, n: usize, ones1: usize, ones0: usize) -> bool
-    requires { ⌜ at1 ≤ 39900 ⌝ }
-    requires { ⌜ at0 ≤ 39900 ⌝ }
+    requires { ⌜ length (now b) ≤ 512 * mostBlock ⌝ }
     requires { ⌜ n ≤ 64 ⌝ }
     requires { ⌜ at1 + (n + 7) / 8 ≤ length (now b) ⌝ }
     requires { ⌜ at0 + (n + 7) / 8 ≤ length (now b) ⌝ }
-    requires { ⌜ ones1 ≤ 69900 ⌝ }
-    requires { ⌜ ones0 ≤ 69900 ⌝ }
+    requires { ⌜ ones1 + n ≤ mostOnes ⌝ }
+    requires { ⌜ ones0 + n ≤ mostOnes ⌝ }
     ensures { λ r. ⌜ Decides r (StepAt (now (b .entry)) at1 at0 n ones1 ones0) ⌝ }
 {
     let mut before1 = ones1;
@@ -79,26 +78,27 @@ pub fn bytes_in_step(b: &[u8], at1: usize, at0: usize, n: usize, ones1: usize, o
     bits_in_step(b, at1 + i, at0 + i, n - 8 * i, before1, before0)
 }
 
-// Of eight bytes of R1 from `at1` on, which `ones1` ones come before, and eight of R0 from `at0` on, which `ones0` come before: is R1 in step with R0 at each bit? R1 has `more` ones in them where R0 has none.
+// Of eight bytes of R1 from `at1` on, which `ones1` ones come before, and eight of R0 from `at0`
+// on, which `ones0` come before: is R1 in step with R0 at each bit? R1 has `ahead` ones in them
+// where R0 has none.
 pub fn word_in_step(
     b: &[u8],
     at1: usize,
     at0: usize,
     ones1: usize,
     ones0: usize,
-    more: usize,
+    ahead: usize,
 ) -> bool
-    requires { ⌜ at1 ≤ 39900 ⌝ }
-    requires { ⌜ at0 ≤ 39900 ⌝ }
+    requires { ⌜ length (now b) ≤ 512 * mostBlock ⌝ }
     requires { ⌜ at1 + 8 ≤ length (now b) ⌝ }
     requires { ⌜ at0 + 8 ≤ length (now b) ⌝ }
-    requires { ⌜ ones1 ≤ 69900 ⌝ }
-    requires { ⌜ ones0 ≤ 69900 ⌝ }
-    requires { ⌜ more ≡ ones (without (bitsFrom (now b) (8 * at1) 64) (bitsFrom (now b) (8 * at0) 64)) ⌝ }
+    requires { ⌜ ones1 + 64 ≤ mostOnes ⌝ }
+    requires { ⌜ ones0 + 64 ≤ mostOnes ⌝ }
+    requires { ⌜ ahead ≡ ones (without (bitsFrom (now b) (8 * at1) 64) (bitsFrom (now b) (8 * at0) 64)) ⌝ }
     ensures { λ r. ⌜ Decides r (StepAt (now (b .entry)) at1 at0 64 ones1 ones0) ⌝ }
 {
     // a one that both have moves neither ahead
-    if ones1 + more <= ones0 {
+    if ones1 + ahead <= ones0 {
         return true;
     }
     bytes_in_step(b, at1, at0, 64, ones1, ones0)

@@ -59,7 +59,8 @@ module _ (bytes : List ℕ) (at n i nth place : ℕ) where
         let e : o .0 ≡ place - i - 1 = omega (arith, o .3) in
         (ap (λ p. bitAt bytes (8 * at + p)) (sym e) ∙ o .1, ap (λ p. ones (bitsFrom bytes (8 * at) p) + 1) (sym e) ∙ o .2)
 
--- bit o in its word of eight bytes: t ones before the word, and r from its beginning up to the bit, if that is one
+-- bit o in its word of eight bytes: t ones before the word, and r from its beginning up to the bit,
+-- if that is one
 module _ (bytes : List ℕ) (at o t r : ℕ) (before : t ≡ ones (bitsFrom bytes (8 * at) (64 * (o / 64))))
     (count : r ≡ value (bitAt bytes (8 * (at + 8 * (o / 64)) + o % 64)) * ones (bitsFrom bytes (8 * (at + 8 * (o / 64))) (o % 64 + 1))) where
   abbrev word : ℕ

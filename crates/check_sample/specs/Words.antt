@@ -1,4 +1,4 @@
--- The words of samples: where each stands, the one that it names, and zeros after the last.
+-- The words of samples: where each is, the one that it names, and zeros after the last.
 use mathlib.Core.Path.{_≡_}
 use mathlib.Core.List.{List}
 use Prim.Native.Nat.{ℕ, _+_, _*_, _/_, _≤_, _<_}
@@ -7,7 +7,8 @@ use Rattle.meaning.specs.Bytes.{bitAt, bitsFrom}
 use Rattle.theory.specs.Layout.{sampleIn}
 use Rattle.theory.specs.Stages.{blocksOfSamples}
 
--- of n bits from byte `at` on, which i bits of their string come before: the position of one number `nth` of them, from 1
+-- of n bits from byte `at` on, which i bits of their string come before: the position of one number
+-- `nth` of them, from 1
 abbrev pub NamesOne : List ℕ → ℕ → ℕ → ℕ → ℕ → ℕ → Type 0
 NamesOne bytes at n i nth place =
     (p : ℕ) → p < n → bitAt bytes (8 * at + p) ≡ I → ones (bitsFrom bytes (8 * at) p) + 1 ≡ nth → place ≡ i + p + 1

@@ -1,6 +1,8 @@
-// The words of samples, looked at by themselves: does one name the right bit, and are those after the last zero?
+// One sample: does it name the right bit? And are the words after the last sample zero?
+// the last zero?
 ghost use Prim.Native.Nat.{_+_, _*_, _≤_};
 ghost use lib.ListN.{length};
+ghost use Rattle.theory.specs.Bounds.{mostBlock};
 ghost use Rattle.meaning.specs.Strings.{ones};
 ghost use Rattle.meaning.specs.Bytes.{bitsFrom};
 ghost use Rattle.theory.specs.Layout.{wordAt};
@@ -12,26 +14,29 @@ use bits_count::ones_ending;
 use image_string::all_zero;
 use image_words::word;
 
-// Of the first n bits from byte `at` on, which i bits of their string come before: does the sample at byte p name one number `nth` of them, from 1?
-pub fn sample_right(
-    b: &[u8],
-    p: usize,
-    at: usize,
-    n: usize,
-    i: usize,
-    nth: usize,
-    table: &[u32; 63],
-) -> bool
-    requires { ⌜ at ≤ 39000 ⌝ }
-    requires { ⌜ n ≤ 4000 ⌝ }
-    requires { ⌜ i ≤ 65536 ⌝ }
+// Bits of a string in an image: so many from byte `at` on, which `earlier` bits of the string come
+// before.
+pub struct Piece {
+    pub at: usize,
+    pub bits: usize,
+    pub earlier: usize,
+}
+
+// Does the sample at byte p name one number `nth` of the piece, counted from 1?
+pub fn sample_right(b: &[u8], p: usize, piece: Piece, nth: usize, table: &[u32; 63]) -> bool
+    requires { ⌜ piece .at ≤ 1024 * mostBlock ⌝ }
+    requires { ⌜ piece .bits ≤ 4000 ⌝ }
+    requires { ⌜ piece .earlier ≤ 65536 ⌝ }
     requires { ⌜ 1 ≤ nth ⌝ }
-    requires { ⌜ nth ≤ ones (bitsFrom (now b) (8 * at) n) ⌝ }
+    requires { ⌜ nth ≤ ones (bitsFrom (now b) (8 * piece .at) (piece .bits)) ⌝ }
     requires { ⌜ p + 4 ≤ length (now b) ⌝ }
-    requires { ⌜ at + 504 ≤ length (now b) ⌝ }
-    requires { ⌜ CountsBefore (now b) at (now table) ⌝ }
-    ensures { λ r. ⌜ Decides r (NamesOne (now (b .entry)) at n i nth (wordAt (now (b .entry)) p)) ⌝ }
+    requires { ⌜ piece .at + 504 ≤ length (now b) ⌝ }
+    requires { ⌜ CountsBefore (now b) (piece .at) (now table) ⌝ }
+    ensures { λ r. ⌜ Decides r (NamesOne (now (b .entry)) (piece .at) (piece .bits) (piece .earlier) nth (wordAt (now (b .entry)) p)) ⌝ }
 {
+    let at = piece.at;
+    let n = piece.bits;
+    let i = piece.earlier;
     let place = word(b, p) as usize;
     if place <= i {
         return false;
@@ -41,7 +46,7 @@ pub fn sample_right(
     }
     let o = place - i - 1;
     let upto = ones_ending(b, at + 8 * (o / 64), o % 64) as usize;
-    // no one stands there
+    // no one is there
     if upto == 0 {
         return false;
     }
@@ -51,7 +56,7 @@ pub fn sample_right(
 // Are the words of the samples' blocks zero after the last sample of m ones?
 pub fn words_zero(b: &[u8], from: usize, m: u32) -> bool
     requires { ⌜ m ≤ 65536 ⌝ }
-    requires { ⌜ from ≤ 53 ⌝ }
+    requires { ⌜ from ≤ mostBlock ⌝ }
     requires { ⌜ 512 * (from + blocksOfSamples m) ≤ length (now b) ⌝ }
     ensures { λ r. ⌜ Decides r (RestZero (now (b .entry)) from m) ⌝ }
 {

@@ -1,4 +1,5 @@
--- A table filled from its front, and the ones before each word as the sums of those in the words before it.
+-- A table filled from its front, and the ones before each word as the sums of those in the words
+-- before it.
 use mathlib.Core.Path.{_≡_, refl, sym, ap, _∙_}
 use mathlib.Core.List.{List}
 use Prim.Native.Nat.{ℕ, zero, suc, _+_, _*_, _≤_, _<_}

@@ -6,7 +6,8 @@ use lib.ListN.{getD}
 use Rattle.meaning.specs.Strings.{ones}
 use Rattle.meaning.specs.Bytes.{bitsFrom}
 
--- a table of the ones in each of 63 words of eight bytes from byte `at` on, and one of the ones before each
+-- a table of the ones in each of 63 words of eight bytes from byte `at` on, and one of the ones
+-- before each
 abbrev pub WordCounts : List ℕ → ℕ → List ℕ → Type 0
 WordCounts bytes at table = (w : ℕ) → w < 63 → getD table w 0 ≡ ones (bitsFrom bytes (8 * (at + 8 * w)) 64)
 

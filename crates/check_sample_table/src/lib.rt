@@ -1,11 +1,12 @@
-// A table of the ones before each of 63 words of eight bytes.
+// A table of the ones before each word of eight bytes of a block.
 ghost use mathlib.Core.Path.{_≡_};
 ghost use Prim.Native.Nat.{ℕ, _+_, _*_, _≤_, _<_};
 ghost use lib.ListN.{getD, length, set};
 ghost use Rattle.check_sample_table.specs.Table.{WordCounts, sumTo};
 use bits_word::ones_in_word;
 
-// How many bits of each of 63 words of eight bytes from byte `at` on are one. Each by itself, so that they become lanes.
+// How many bits of each of 63 words of eight bytes from byte `at` on are one. Each by itself, so
+// that they are vectorised.
 pub fn count_words(b: &[u8], at: usize, table: &mut [u32; 63])
     requires { ⌜ at + 504 ≤ length (now b) ⌝ }
     requires { ⌜ length (now table) ≡ 63 ⌝ }
@@ -33,7 +34,8 @@ fn put_before(table: &mut [u32; 63], w: usize, sum: u32) -> u32
     next
 }
 
-// Puts in the place of each number what those before it come to. Three in a turn: a turn of one is mostly the loop's own.
+// Puts in the place of each number what those before it come to. Three in a turn: a turn of one is
+// mostly the loop's own.
 pub fn add_up(table: &mut [u32; 63])
     requires { ⌜ length (now table) ≡ 63 ⌝ }
     requires { ⌜ ((w : ℕ) → w < 63 → getD (now table) w 0 ≤ 64) ⌝ }

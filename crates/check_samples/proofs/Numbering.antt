@@ -1,4 +1,4 @@
--- The samples of a piece, one after another, and where the next one stands.
+-- The samples of a piece, one after another, and where the next one is.
 use mathlib.Core.Path.{_≡_, ap, _∙_}
 use mathlib.Core.List.{List}
 use Prim.Native.Nat.{ℕ, _+_, _-_, _*_, _/_, _%_, _≤_, _<_}
@@ -39,7 +39,7 @@ module _ (bytes : List ℕ) (from at n i k : ℕ) where
       let z = k + ones (bitsFrom bytes (8 * at) p) in
       all (z / 64) (omega arith) p l e (omega arith)
 
--- where the next one stands
+-- where the next one is
 module _ (from s : ℕ) where
   column : samplePlace from s % 512 ≡ 4 * (s % 126)
   column = go (from + s / 126) (s % 126) (omega arith)

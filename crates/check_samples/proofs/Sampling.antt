@@ -1,4 +1,5 @@
--- The samples of a string: each is the position of one number 64 s + 1, block by block, and zeros after the last.
+-- The samples of a string: each is the position of one number 64 s + 1, block by block, and zeros
+-- after the last.
 use mathlib.Core.Path.{_≡_, sym, ap, ap₂, _∙_}
 use mathlib.Core.List.{List}
 use Prim.Native.Nat.{ℕ, suc, _+_, _-_, _*_, _/_, _%_, _≤_, _<_}
@@ -70,7 +71,7 @@ module _ (bytes : List ℕ) (from first n m : ℕ) (count : m ≡ onesTo bytes f
       sample-of-one r p q (omega (arith, length-stringIn bytes first 0 n)) (string-at bytes first n p h ∙ e) (onesTo-take bytes first p n (omega arith) ∙ c)
       (omega (arith, onesTo-next bytes first p 1 (ap value (sym e)), onesTo-mono bytes first (p + 1) n (omega arith)))
 
-  -- where the one of a sample stands
+  -- where the one of a sample is
   there : SampledWithin bytes from first 0 n → (q : ℕ) → 64 * q < m → (p : ℕ) × (p < n) × (bitAt bytes (bitPlace first p) ≡ I) × (onesTo bytes first p ≡ 64 * q) × (sampleIn bytes from q ≡ p + 1)
   there all q h =
       let o = one-there r (64 * q) (omega arith) in

@@ -10,7 +10,8 @@ use Rattle.theory.specs.Layout.{sampleIn}
 abbrev pub SampledHere : List ℕ → ℕ → ℕ → ℕ → Type 0
 SampledHere bytes from k place = k % 64 ≡ 0 → sampleIn bytes from (k / 64) ≡ place
 
--- of n bits from byte `at` on, which i bits and k ones of their string come before: the ones that have samples
+-- of n bits from byte `at` on, which i bits and k ones of their string come before: the ones that
+-- have samples
 abbrev pub PieceSampled : List ℕ → ℕ → ℕ → ℕ → ℕ → ℕ → Type 0
 PieceSampled bytes from at n i k =
     (p : ℕ) → p < n → bitAt bytes (8 * at + p) ≡ I → SampledHere bytes from (k + ones (bitsFrom bytes (8 * at) p)) (i + p + 1)

@@ -20,13 +20,15 @@ SampledWithin bytes from first a b = (p : ℕ) → a ≤ p → p < b → Sampled
 abbrev pub BlockRight : List ℕ → ℕ → ℕ → ℕ → ℕ → Type 0
 BlockRight bytes from first j end = (end ≡ onesTo bytes first (4000 * j + 4000)) × SampledWithin bytes from first (4000 * j) (4000 * j + 4000)
 
--- a string of n bits that has no more than m ones in full blocks: its counts, and the samples of all blocks but the last
+-- a string of n bits that has no more than m ones in full blocks: its counts, and the samples of
+-- all blocks but the last
 pub record BlocksRight (bytes : List ℕ) (from m first n : ℕ) : Type 0 where
   pub counted : Counted bytes first n
   pub few : onesTo bytes first (4000 * ((n - 1) / 4000)) ≤ m
   pub sampled : SampledWithin bytes from first 0 (4000 * ((n - 1) / 4000))
 
--- a string with m ones: every sample is the position, from 1, of a one that 64 times its number of ones come before
+-- a string with m ones: every sample is the position, from 1, of a one that 64 times its number of
+-- ones come before
 abbrev pub Placed : List ℕ → ℕ → ℕ → ℕ → Type 0
 Placed bytes from first m =
     (q : ℕ) → 64 * q < m → (p : ℕ) × (onesTo bytes first p ≡ 64 * q) × (onesTo bytes first (p + 1) ≡ 64 * q + 1) × (sampleIn bytes from q ≡ p + 1)

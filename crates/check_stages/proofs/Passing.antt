@@ -1,44 +1,56 @@
 -- All stages, from those of the header and those of the strings.
-use mathlib.Core.Path.{_≡_, subst}
-use mathlib.Core.Bool.{Bool}
+use mathlib.Core.Path.{_≡_, sym, ap, subst}
 use mathlib.Core.List.{List}
-use Prim.Native.Nat.{ℕ, _+_}
-use Rattle.theory.specs.Stages.{Header, Stages, nodesOf, runsOf, r0Block, r1Samples, blocksOfSamples}
-use Rattle.image_string.specs.Decides.{Decides}
+use Prim.Native.Nat.{ℕ, _*_, _≤_}
+use native.Mathlib.Omega.{arith}
+use lib.ListN.{length}
+use Rattle.theory.specs.Stages.{Header, Stages, nodesOf, runsOf}
+use Rattle.image_layout.specs.declared.Layout.{Layout}
+use Rattle.image_layout.specs.Layout.{layoutOf}
+use Rattle.image_layout.specs.Fits.{LaidOut}
 use Rattle.check_stages.specs.Passes.{StringsPass}
-use Rattle.image_string.proofs.Saying.{decides-same}
 
-module _ (bytes : List ℕ) where
-  -- with the numbers that the header gives
-  abbrev Passed : Type 0
-  Passed =
-      let n = nodesOf bytes in
-      let m = runsOf bytes in
-      StringsPass bytes n m (r0Block n) (r1Samples n) (r1Samples n + blocksOfSamples m)
+module _ (bytes : List ℕ) (layout : Layout) (laid : layout ≡ layoutOf (nodesOf bytes) (runsOf bytes)) where
+  -- the bytes of a right header have room for its layout
+  pub laid-out : (blocks : ℕ) → length bytes ≡ 512 * blocks → blocks ≤ 53 → Header bytes → LaidOut bytes layout
+  laid-out blocks size few h =
+      let n = ap (λ (l : Layout). l .nodes) laid in
+      let m = ap (λ (l : Layout). l .runs) laid in
+      let r0 = ap (λ (l : Layout). l .«r0_block») laid in
+      let s1 = ap (λ (l : Layout). l .«r1_samples») laid in
+      let s0 = ap (λ (l : Layout). l .«r0_samples») laid in
+      let some = h .some in
+      let most = h .most in
+      let needed = h .needed in
+      record {
+        some = omega arith;
+        most = omega arith;
+        isR0 = omega arith;
+        isR1Samples = omega arith;
+        isR0Samples = omega arith;
+        room = omega arith;
+        small = omega arith;
+      }
 
-  together : Header bytes → Passed → Stages bytes
-  together h p = record {
-    header = h;
-    ended1 = p .right1 .ended;
-    ended0 = p .right0 .ended;
-    inStep = p .inStep;
-    kept1 = p .right1 .kept;
-    kept0 = p .right0 .kept;
-    sampled1 = p .sampled1;
-    sampled0 = p .sampled0;
-  }
+  pub together : Header bytes → StringsPass bytes layout → Stages bytes
+  together h s =
+      let p = subst (StringsPass bytes) laid s in
+      record {
+        header = h;
+        ended1 = p .right1 .ended;
+        ended0 = p .right0 .ended;
+        inStep = p .inStep;
+        kept1 = p .right1 .kept;
+        kept0 = p .right0 .kept;
+        sampled1 = p .sampled1;
+        sampled0 = p .sampled0;
+      }
 
-  apart : Stages bytes → Passed
-  apart s = record {
+  pub apart : Stages bytes → StringsPass bytes layout
+  apart s = subst (StringsPass bytes) (sym laid) (record {
     right1 = record { kept = s .kept1; ended = s .ended1 };
     right0 = record { kept = s .kept0; ended = s .ended0 };
     inStep = s .inStep;
     sampled1 = s .sampled1;
     sampled0 = s .sampled0;
-  }
-
-  pub all-pass : (t : Bool) (n m z s1 s0 : ℕ) → n ≡ nodesOf bytes → m ≡ runsOf bytes → z ≡ r0Block n → s1 ≡ r1Samples n → s0 ≡ s1 + blocksOfSamples m
-      → Header bytes → Decides t (StringsPass bytes n m z s1 s0) → Decides t (Stages bytes)
-  all-pass t n m z s1 s0 en em ez e1 e0 h s =
-      let same : _≡_ {A = Type 0} (StringsPass bytes n m z s1 s0) Passed = cc in
-      decides-same t Passed (Stages bytes) (together h) apart (subst (λ P. Decides t P) same s)
+  })

@@ -1,14 +1,15 @@
--- The stages behind the header.
+-- The stages after the header.
 use mathlib.Core.List.{List}
 use Prim.Native.Nat.{ℕ, _+_}
 use Rattle.meaning.specs.Image.{stringIn}
 use Rattle.theory.specs.Stages.{InStep, Sampled}
+use Rattle.image_layout.specs.declared.Layout.{Layout}
 use Rattle.check_counts.specs.Parts.{StringRight}
 
--- the stages behind the header, for n nodes and m marks, where R0 begins at block z and the samples at s1 and s0
-pub record StringsPass (bytes : List ℕ) (n m z s1 s0 : ℕ) : Type 0 where
-  pub right1 : StringRight bytes 1 n m
-  pub right0 : StringRight bytes z (n + 1) m
-  pub inStep : InStep (stringIn bytes 1 0 n) (stringIn bytes z 0 (n + 1))
-  pub sampled1 : Sampled bytes s1 m (stringIn bytes 1 0 n)
-  pub sampled0 : Sampled bytes s0 m (stringIn bytes z 0 (n + 1))
+-- both strings are right, at the blocks of the layout, and so are their samples
+pub record StringsPass (bytes : List ℕ) (layout : Layout) : Type 0 where
+  pub right1 : StringRight bytes 1 (layout .nodes) (layout .runs)
+  pub right0 : StringRight bytes (layout .«r0_block») (layout .nodes + 1) (layout .runs)
+  pub inStep : InStep (stringIn bytes 1 0 (layout .nodes)) (stringIn bytes (layout .«r0_block») 0 (layout .nodes + 1))
+  pub sampled1 : Sampled bytes (layout .«r1_samples») (layout .runs) (stringIn bytes 1 0 (layout .nodes))
+  pub sampled0 : Sampled bytes (layout .«r0_samples») (layout .runs) (stringIn bytes (layout .«r0_block») 0 (layout .nodes + 1))

@@ -1,4 +1,5 @@
--- The check of the sums: a block is right if its last two words are its sums, and the loop over the blocks finds the lowest that is not.
+-- The check of the sums: a block is right if its last two words are its sums, and the loop over the
+-- blocks finds the lowest that is not.
 use mathlib.Core.Path.{_≡_, refl, sym, ap, ap₂, _∙_}
 use mathlib.Core.Bool.{Bool, true, false, cond}
 use mathlib.Core.List.{List, [], _∷_, _++_}

@@ -1,5 +1,6 @@
--- What the check of an image finds, from the facts that its tests show; and what the calls answer by it.
-use mathlib.Core.Path.{_≡_, refl, sym, ap, _∙_, subst}
+-- What the check of an image finds, from the facts that its tests show; and what the calls answer
+-- by it.
+use mathlib.Core.Path.{_≡_, refl, sym, ap, _∙_}
 use mathlib.Core.Bool.{Bool, true, false, cond, not, _||_}
 use mathlib.Core.List.{List, [], _∷_, _++_}
 use Prim.Native.Nat.{ℕ, zero, suc, _+_, _*_, _≤_}

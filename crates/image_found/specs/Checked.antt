@@ -1,4 +1,5 @@
--- What the whole check of an image finds, and document 01's numbers for it ("Numbers a caller gets back").
+-- What the whole check of an image finds, and document 01's numbers for it ("Numbers a caller gets
+-- back").
 use mathlib.Core.Bool.{false}
 use mathlib.Core.List.{List}
 use Prim.Native.Nat.{ℕ}

@@ -1,4 +1,4 @@
-// What the check of an image finds, and the numbers that a caller gets for it; the check itself is `check_image`.
+// What the check of an image (`check_image`) finds, and the code and place that a caller gets.
 ghost use mathlib.Core.Path.{_≡_};
 ghost use Rattle.image_found.specs.Checked.{answered};
 use image_layout::Layout;

@@ -1,8 +1,10 @@
 // The layout of an image: which blocks hold what, by the numbers of its nodes and runs.
 ghost use mathlib.Core.Path.{_≡_};
-ghost use Prim.Native.Nat.{_≤_};
+ghost use Prim.Native.Nat.{_+_, _*_, _-_, _/_, _≤_};
 ghost use Rattle.meaning.specs.Image.{stringBlocks};
-ghost use Rattle.theory.specs.Stages.{blocksNeeded, blocksOfSamples, r0Block, r1Samples};
+ghost use Rattle.theory.specs.Bounds.{mostBlock};
+ghost use Rattle.theory.specs.Layout.{samplePlace};
+ghost use Rattle.theory.specs.Stages.{blocksOfSamples};
 ghost use Rattle.image_layout.specs.Layout.{layoutOf};
 
 // The nodes and runs of an image, the blocks at which R0, the samples of R1 and those of R0 begin,
@@ -32,29 +34,21 @@ pub fn sample_blocks(m: usize) -> usize
     ((m + 63) / 64 + 125) / 126
 }
 
-// The block at which R0 begins.
-pub fn zeros_from(n: usize) -> usize
-    requires { ⌜ n ≤ 65535 ⌝ }
-    ensures { λ r. ⌜ r ≡ r0Block n ⌝ }
+// The first byte of sample number s, from 0, of samples whose blocks begin at block `samples`.
+pub fn sample_at(samples: usize, s: usize) -> usize
+    requires { ⌜ samples ≤ mostBlock ⌝ }
+    requires { ⌜ s ≤ 126 * mostBlock ⌝ }
+    ensures { λ r. ⌜ r ≡ samplePlace samples s ⌝ }
 {
-    1 + string_blocks(n)
+    512 * (samples + s / 126) + 4 * (s % 126)
 }
 
-// The block at which the samples of R1 begin.
-pub fn samples_from(n: usize) -> usize
-    requires { ⌜ n ≤ 65535 ⌝ }
-    ensures { λ r. ⌜ r ≡ r1Samples n ⌝ }
+// Which block of a string of n bits is the last, from 0.
+pub fn last_block(n: usize) -> usize
+    requires { ⌜ 1 ≤ n ⌝ }
+    ensures { λ r. ⌜ r ≡ (n - 1) / 4000 ⌝ }
 {
-    zeros_from(n) + string_blocks(n + 1)
-}
-
-// How many blocks n nodes and m runs take.
-pub fn blocks_needed(n: usize, m: usize) -> usize
-    requires { ⌜ n ≤ 65535 ⌝ }
-    requires { ⌜ m ≤ 65535 ⌝ }
-    ensures { λ r. ⌜ r ≡ blocksNeeded n m ⌝ }
-{
-    samples_from(n) + 2 * sample_blocks(m)
+    (n - 1) / 4000
 }
 
 // The layout of an image of n nodes with m runs: the header, the two strings, then their samples.

@@ -1,4 +1,5 @@
--- What the rows of the check of an image come to in a call: a tree's image passes them, other bytes are refused by them, and what code 0 behind them tells.
+-- What the rows of the check of an image come to in a call: a tree's image passes them, other bytes
+-- are refused by them, and what code 0 after them tells.
 use mathlib.Core.Path.{_≡_, refl, sym, ap, _∙_}
 use mathlib.Core.Bool.{Bool, false, not}
 use mathlib.Core.List.{List, _++_}
@@ -49,7 +50,8 @@ module _ (bytes : List ℕ) (refused : checkImage bytes .answer .code ≡ 0 → 
       by-found (Sound i) e = absurd (refused (ap (λ o. o .answer .code) (sym (image-answered bytes)) ∙ ap (λ c. answered c .code) e))
       by-found (Refused r) e = ap (λ r. cameTo r before) (ap answered (sym e) ∙ ap (λ o. o .answer) (image-answered bytes))
 
--- code 0: what else is lent has a right size, some tree gives the bytes, and no row behind the check holds
+-- code 0: what else is lent has a right size, some tree gives the bytes, and no row after the
+-- check holds
 pub rows-done : {A : Type 0} (before : A) (a : Answer) (after : A) (bytes : List ℕ) (w : Bool) (rest : List Row) → Others 0 rest
     → settle before (checkRows bytes w ++ rest) a after .answer .code ≡ 0
     → (w ≡ false) × ((t : Tree) × (nodes t ≤ 65535) × (image t ≡ bytes)) × NoneHolds rest

@@ -11,7 +11,7 @@ use lib.IntN.{ℤ}
 use lib.ListN.{length, take, drop, length-map}
 use lib.Seq.{take-at}
 use Rattle.meaning.specs.Trees.{Tree, Node, nodes, depth}
-use Rattle.meaning.specs.Parents.{parents, badEntry}
+use Rattle.meaning.specs.Parents.{parents}
 use Rattle.meaning.specs.Strings.{ones, R1, stringOf}
 use Rattle.meaning.specs.Image.{imageOfString, image, parentsIn}
 use Rattle.meaning.specs.Questions.{Ask, Question, questions, kindOf, numberOf, takes, isNode, allowedKind, allowed, notAllowed, answerKind, answerTo}

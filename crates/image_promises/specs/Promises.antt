@@ -28,7 +28,8 @@ use Rattle.list_measure.specs.Numbers.{measuredOutcome}
 abbrev pub countsOf : Tree → Answer
 countsOf t = counts (nodes t) (withChildren t + 1)
 
--- a list of numbers is sealed exactly if it is the parent list of some tree of 1 to 65,535 nodes, and there is room for its image
+-- a list of numbers is sealed exactly if it is the parent list of some tree of 1 to 65,535 nodes,
+-- and there is room for its image
 abbrev pub ListSealedExactly : Type 0
 ListSealedExactly = (ps bytes : List ℕ)
     → (imageOfParents ps bytes .answer .code ≡ 0) ↔ ((t : Tree) × (nodes t ≤ 65535) × (parents t ≡ ps) × (length (image t) ≤ length bytes))
@@ -50,7 +51,8 @@ CheckedOfTree = (t : Tree) → nodes t ≤ 65535 → checkImage (image t) ≡ ca
 abbrev pub CheckedByFound : Type 0
 CheckedByFound = (bytes : List ℕ) → cameTo (answered (checked bytes)) tt ≡ checkImage bytes
 
--- every public reading makes the whole check first: what the check refuses, each reading refuses alike, and no lent list changes
+-- every public reading makes the whole check first: what the check refuses, each reading refuses
+-- alike, and no lent list changes
 abbrev pub CheckedFirst : Type 0
 CheckedFirst = (bytes out : List ℕ)
     → let found = checkImage bytes .answer in
@@ -68,19 +70,22 @@ SealedThenRead = (t : Tree) (bytes out : List ℕ) → nodes t ≤ 65535 → len
     (sealed ≡ cameTo (countsOf t) (written (image t) bytes))
     × (parentsOfImage (take (length (image t)) (sealed .lent)) out ≡ cameTo (counts (nodes t) 0) (written (parents t) out))
 
--- bytes are read exactly if they are the image of some tree of 1 to 65,535 nodes, and there is room for its parent list
+-- bytes are read exactly if they are the image of some tree of 1 to 65,535 nodes, and there is room
+-- for its parent list
 abbrev pub ImageReadExactly : Type 0
 ImageReadExactly = (bytes out : List ℕ)
     → (parentsOfImage bytes out .answer .code ≡ 0) ↔ ((t : Tree) × (nodes t ≤ 65535) × (image t ≡ bytes) × (nodes t ≤ length out))
 
--- an image that is read gives a parent list that gives the same bytes back, with the n that was read and the m of the check
+-- an image that is read gives a parent list that gives the same bytes back, with the n that was
+-- read and the m of the check
 abbrev pub AcceptedIsSealed : Type 0
 AcceptedIsSealed = (bytes out bytes′ : List ℕ) → length bytes ≤ length bytes′
     → let read = parentsOfImage bytes out in
     read .answer .code ≡ 0
     → imageOfParents (take (read .answer .first) (read .lent)) bytes′ ≡ cameTo (counts (read .answer .first) (checkImage bytes .answer .second)) (written bytes bytes′)
 
--- images that are read and give one parent list are the same bytes: those that differ are of different trees
+-- images that are read and give one parent list are the same bytes: those that differ are of
+-- different trees
 abbrev pub OneImagePerTree : Type 0
 OneImagePerTree = (a b out out′ : List ℕ)
     → let first = parentsOfImage a out in
@@ -104,14 +109,16 @@ EachAllowed n (q ∷ qs) = Allowed n q × EachAllowed n qs
 abbrev pub AllowedExactly : Type 0
 AllowedExactly = (n : ℕ) (qs : List Question) → (notAllowed n qs 0 ≡ 0) ↔ EachAllowed n qs
 
--- the questions come in threes, 256 at most, each is allowed in a tree of n nodes, and there is room for the answers
+-- the questions come in threes, 256 at most, each is allowed in a tree of n nodes, and there is
+-- room for the answers
 pub record Askable (n : ℕ) (qs : List ℤ) (out : List ℕ) : Type 0 where
   pub threes : length qs % 3 ≡ 0
   pub few : length qs / 3 ≤ 256
   pub allowed : notAllowed n (questions qs) 0 ≡ 0
   pub room : length (questions qs) ≤ length out
 
--- questions are answered exactly if the bytes are the image of some tree of 1 to 65,535 nodes that they can be asked of
+-- questions are answered exactly if the bytes are the image of some tree of 1 to 65,535 nodes that
+-- they can be asked of
 abbrev pub AskedExactly : Type 0
 AskedExactly = (bytes : List ℕ) (qs : List ℤ) (out : List ℕ)
     → (askImage bytes qs out .answer .code ≡ 0) ↔ ((t : Tree) × (nodes t ≤ 65535) × (image t ≡ bytes) × Askable (nodes t) qs out)
@@ -147,12 +154,14 @@ pub record Listable (t : Tree) (x : ℕ) (out : List ℕ) : Type 0 where
   pub shallow : Shallow t x
   pub room : 2 * length (everything (nodeAt t x)) ≤ length out
 
--- node x is listed exactly if the bytes are the image of some tree of 1 to 65,535 nodes of which it can be listed
+-- node x is listed exactly if the bytes are the image of some tree of 1 to 65,535 nodes of which it
+-- can be listed
 abbrev pub ListedExactly : Type 0
 ListedExactly = (bytes : List ℕ) (x : ℕ) (out : List ℕ)
     → (listImage bytes x out .answer .code ≡ 0) ↔ ((t : Tree) × (nodes t ≤ 65535) × (image t ≡ bytes) × Listable t x out)
 
--- and then the listing is the depth-first order of everything below x, with depths, two numbers to a node
+-- and then the listing is the depth-first order of everything below x, with depths, two numbers to
+-- a node
 abbrev pub ListedOfTree : Type 0
 ListedOfTree = (t : Tree) (x : ℕ) (out : List ℕ) → nodes t ≤ 65535 → Listable t x out
     → let v = nodeAt t x in

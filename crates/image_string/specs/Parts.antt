@@ -1,4 +1,5 @@
--- What the small checks of a string of an image look at: bytes that are zero, the ones among its first bits, the word 0 of its blocks, and the bits after its last.
+-- What the small checks of a string of an image look at: bytes that are zero, the ones among its
+-- first bits, the word 0 of its blocks, and the bits after its last.
 use mathlib.Core.Path.{_≡_}
 use mathlib.Core.List.{List}
 use Prim.Native.Nat.{ℕ, _+_, _*_, _≤_, _<_}

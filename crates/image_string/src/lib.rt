@@ -1,7 +1,8 @@
-// Of one string of an image: its bits, and bytes that are zero.
+// One string of an image, in its blocks: a bit of it, bytes that are zero, laws of its ones.
 ghost use mathlib.Core.Path.{_≡_};
 ghost use Prim.Native.Nat.{_+_, _*_, _/_, _%_, _≤_, _<_};
 ghost use lib.ListN.{length};
+ghost use Rattle.theory.specs.Bounds.{mostBlock};
 ghost use Rattle.meaning.specs.Bytes.{bitAt, value};
 ghost use Rattle.image_string.specs.Decides.{Decides};
 ghost use Rattle.image_string.specs.Parts.{ZeroBytes};
@@ -9,15 +10,16 @@ use bits_byte::bit_at;
 
 // Bit i of the string whose blocks begin at block `first`.
 pub fn string_bit(b: &[u8], first: usize, i: usize) -> u8
-    requires { ⌜ i < 70000 ⌝ }
-    requires { ⌜ first ≤ 53 ⌝ }
+    requires { ⌜ i ≤ 4000 * mostBlock ⌝ }
+    requires { ⌜ first ≤ mostBlock ⌝ }
     requires { ⌜ 512 * (first + i / 4000 + 1) ≤ length (now b) ⌝ }
     ensures { λ r. ⌜ r ≡ value (bitAt (now (b .entry)) (8 * (512 * (first + i / 4000) + 4) + i % 4000)) ⌝ }
 {
     bit_at(b, 8 * (512 * (first + i / 4000) + 4) + i % 4000)
 }
 
-// Are the bytes from `from` to before `to` all zero? It looks at every one, whatever it finds, so that it becomes lanes.
+// Are the bytes from `from` to before `to` all zero? It looks at every one, whatever it finds, so
+// that it is vectorised.
 pub fn all_zero(b: &[u8], from: usize, to: usize) -> bool
     requires { ⌜ from ≤ to ⌝ }
     requires { ⌜ to ≤ length (now b) ⌝ }

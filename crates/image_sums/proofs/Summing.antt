@@ -1,4 +1,5 @@
--- What the loop over a payload's words keeps: the sums of the words that are left, from the s and t reached, are those of all.
+-- What the loop over a payload's words keeps: the sums of the words that are left, from the s and t
+-- reached, are those of all.
 use mathlib.Core.Path.{_≡_, sym, ap, ap₂, _∙_}
 use mathlib.Core.List.{List, [], _∷_}
 use Prim.Native.Nat.{ℕ, _+_, _*_, _%_, _^_, _≤_, _<_}

@@ -1,4 +1,4 @@
-// The two sums of a block's words.
+// The sums s and t of a block: one loop of wrapping additions over its 126 words.
 ghost use mathlib.Core.Path.{_≡_};
 ghost use Prim.Native.Nat.{_+_, _≤_};
 ghost use lib.ListN.{length, take, drop};
@@ -13,7 +13,8 @@ pub struct Sums {
     pub t: u32,
 }
 
-// The sums of the 126 words from byte `at` on, s from `start` and t from 0: each word is added to s, and then s to t.
+// The sums of the 126 words from byte `at` on, s from `start` and t from 0: each word is added to
+// s, and then s to t.
 // The words are counted by their bytes, so that a word is found by one addition.
 pub fn block_sums(b: &[u8], at: usize, start: u32) -> Sums
     requires { ⌜ at + 504 ≤ length (now b) ⌝ }

@@ -1,4 +1,5 @@
--- Cursors that are ready: at a level with a node the cursor is the number before its first one, and those of the levels below are ready for its nodes' children.
+-- Cursors that are ready: at a level with a node the cursor is the number before its first one, and
+-- those of the levels below are ready for its nodes' children.
 use mathlib.Core.Path.{_≡_, refl, sym, ap, _∙_, subst, subst₂}
 use mathlib.Core.List.{List, [], _∷_, _++_, append-assoc}
 use Prim.Native.Nat.{ℕ, zero, suc, _+_, _≤_, _<_}

@@ -1,4 +1,5 @@
--- The listing level by level: the children of the nodes after a, up to z, are the nodes after `low (suc a)`, up to `low (suc z)`.
+-- The listing level by level: the children of the nodes after a, up to z, are the nodes after `low
+-- (suc a)`, up to `low (suc z)`.
 use mathlib.Core.Path.{_≡_, refl, sym, ap, ap₂, _∙_, subst}
 use mathlib.Core.Bool.{Bool, true, false, cond}
 use mathlib.Core.List.{List, [], _∷_, _++_, append-nil, append-assoc}

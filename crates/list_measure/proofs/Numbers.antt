@@ -1,4 +1,5 @@
--- In an image that the check found sound: the ones before a zero, as its strings give them, are those of its tree's string; and what single bits of its strings tell of them.
+-- In an image that the check found sound: the ones before a zero, as its strings give them, are
+-- those of its tree's string; and what single bits of its strings tell of them.
 use mathlib.Core.Path.{_≡_, refl, sym, ap, ap₂, _∙_, subst}
 use mathlib.Core.List.{List, [], _∷_}
 use Prim.Native.Nat.{ℕ, zero, suc, _+_, _-_, _≤_, _<_}

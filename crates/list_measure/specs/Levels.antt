@@ -11,7 +11,8 @@ use Rattle.theory.specs.Rank.{onesBefore}
 use Rattle.list_measure.specs.declared.Measured.{Measured}
 use Rattle.list_measure.specs.declared.Measured.the-variants.{Fits, TooDeep}
 
--- the ones before zero z of the string of an image's tree: node x has its children after those before zero x, up to those before zero x + 1
+-- the ones before zero z of the string of an image's tree: node x has its children after those
+-- before zero x, up to those before zero x + 1
 unfoldable pub low : List ℕ → ℕ → ℕ
 low bytes z = onesBefore (stringOf (parentsIn bytes)) z
 
@@ -32,7 +33,8 @@ abbrev pub WhereFits : Measured → Type 0 → Type 0
 WhereFits (Fits n) p = p
 WhereFits (TooDeep x) p = Unit
 
--- the same by levels, where n nodes stand above: a level is the nodes after a, up to z, the next one those after `next a`, up to `next z`, and none may be there after `left` more
+-- the same by levels, where n nodes are above: a level is the nodes after a, up to z, the next
+-- one those after `next a`, up to `next z`, and none may be there after `left` more
 unfoldable pub levelsFrom : (ℕ → ℕ) → ℕ → ℕ → ℕ → ℕ → Measured
 levelsFrom next zero a z n = cond (ltb a z) (TooDeep (suc a)) (Fits n)
 levelsFrom next (suc left) a z n = cond (ltb a z) (levelsFrom next left (next a) (next z) (n + (z - a))) (Fits n)

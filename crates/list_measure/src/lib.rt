@@ -1,11 +1,10 @@
-// What a listing takes, found level by level.
+// The size and the depth of a listing, found level by level before anything is written.
 ghost use mathlib.Core.Path.{_≡_};
-ghost use Prim.Native.Nat.{_-_, _≤_};
+ghost use Prim.Native.Nat.{_-_};
 ghost use lib.ListN.{length};
 ghost use Rattle.meaning.specs.Image.{parentsIn};
 ghost use Rattle.meaning.specs.Listing.{listing};
-ghost use Rattle.image_found.specs.declared.Checked.the-variants.{Sound};
-ghost use Rattle.image_found.specs.Checked.{checked};
+ghost use Rattle.nav_strings.specs.Nodes.{IsNode};
 ghost use Rattle.list_measure.specs.Levels.{below, sizeOf, WhereFits};
 ghost use Rattle.list_measure.specs.Cursors.{CursorsReady};
 use image_layout::Layout;
@@ -17,12 +16,10 @@ pub enum Measured {
     TooDeep(u32),
 }
 
-// How many nodes node x and everything below it are, level by level, or the first of them at depth 64.
-// The cursor of each level is left at the number before its first node.
+// How many nodes node x and everything below it are, level by level, or the first of them at depth
+// 64. The cursor of each level is left at the number before its first node.
 pub fn measure(b: &[u8], image: Layout, x: usize, cursors: &mut [u32; 64]) -> Measured
-    requires { ⌜ checked (now b) ≡ Sound image ⌝ }
-    requires { ⌜ 1 ≤ x ⌝ }
-    requires { ⌜ x ≤ image .nodes ⌝ }
+    requires { ⌜ IsNode (now b) image x ⌝ }
     requires { ⌜ length (now cursors) ≡ 64 ⌝ }
     ensures { λ r. ⌜ r ≡ sizeOf (listing 65 (parentsIn (now (b .entry))) x 0) ⌝ }
     ensures { λ r. ⌜ length (now (cursors .exit)) ≡ 64 ⌝ }

@@ -14,12 +14,14 @@ use Rattle.list_measure.proofs.Numbers.{low-upto}
 use Rattle.list_measure.proofs.Cursors.{ready-some, ready-from, ready-fewer}
 use Rattle.list_write.specs.Writing.{MovedOn}
 
--- at first cs, and ds where the children of x up to a are listed: what was ready from level e on, for x and nodes after it, is ready for the children after a
+-- at first cs, and ds where the children of x up to a are listed: what was ready from level e on,
+-- for x and nodes after it, is ready for the children after a
 abbrev pub Along : List ℕ → ℕ → ℕ → List ℕ → List ℕ → ℕ → Type 0
 Along bytes x e cs ds a = (y : ℕ) → x < y → CursorsReady (below bytes) (drop e cs) (low bytes x) (low bytes y) → CursorsReady (below bytes) (drop e ds) a (low bytes y)
 
 module _ (bytes : List ℕ) (i : Layout) (found : checked bytes ≡ Sound i) (x e : ℕ) (cs ds : List ℕ) (a : ℕ) (more : a < low bytes (x + 1)) (along : Along bytes x e cs ds a) where
-  -- level e has a cursor, at the child before the next one, and the levels below it are ready for that one
+  -- level e has a cursor, at the child before the next one, and the levels below it are ready for
+  -- that one
   pub next-child : CursorsReady (below bytes) (drop e cs) (low bytes x) (low bytes (x + 1))
       → (e < length ds) × (getD ds e 0 ≡ a) × CursorsReady (below bytes) (drop (suc e) (set ds e (a + 1))) (low bytes (a + 1)) (low bytes (a + 1 + 1))
   next-child ready =

@@ -1,5 +1,6 @@
--- The listing as it is written: a list whose front is written and whose rest is as it was, and the children that are still to come.
-use mathlib.Core.Path.{_≡_, refl, sym, ap, ap₂, _∙_}
+-- The listing as it is written: a list whose front is written and whose rest is as it was, and the
+-- children that are still to come.
+use mathlib.Core.Path.{_≡_, refl, sym, ap, ap₂, _∙_, subst}
 use mathlib.Core.List.{List, [], _∷_, _++_, append-assoc, append-nil}
 use Prim.Native.Nat.{ℕ, suc, _+_, _-_, _≤_, _<_}
 use native.Mathlib.Numerals.{add-one}
@@ -14,6 +15,7 @@ use Rattle.image_layout.specs.declared.Layout.{Layout}
 use Rattle.image_found.specs.declared.Checked.the-variants.{Sound}
 use Rattle.image_found.specs.Checked.{checked}
 use Rattle.image_found.proofs.Finding.{sound-known}
+use Rattle.nav_strings.specs.Nodes.{IsNode}
 use Rattle.list_measure.specs.Levels.{low, below}
 use Rattle.list_measure.specs.Cursors.{CursorsReady}
 use Rattle.list_write.specs.Writing.{MovedOn, pairsOf, ToList, Listed}
@@ -50,23 +52,23 @@ listing-step bytes i found f x some most =
 
 -- ---- the node that is listed first, with all 64 levels left and none of its siblings
 
-pub to-list : (bytes : List ℕ) (i : Layout) → checked bytes ≡ Sound i → (x : ℕ) (cs out : List ℕ) → 1 ≤ x → x ≤ i .nodes
-    → length cs ≡ 64 → CursorsReady (below bytes) cs (x - 1) x → length (pairsOf bytes 64 x) ≤ length out → ToList bytes (i .«r0_block») x 64 cs out
-to-list bytes i found x cs out some most count ready room =
-    let read = sound-known bytes i found .read in
+pub to-list : {bytes : List ℕ} {i : Layout} {x : ℕ} → IsNode bytes i x → (cs out : List ℕ) → length cs ≡ 64 → CursorsReady (below bytes) cs (x - 1) x
+    → length (pairsOf bytes 64 x) ≤ length out → ToList bytes (i .«r0_block») x 64 cs out
+to-list {bytes} {i} {x} node cs out count ready room =
+    let read = sound-known bytes i (node .sound) .read in
     record {
-      node = record { sound = found ∙ ap Sound read; some = some; most = omega (arith, ap (λ j. j .nodes) read) };
+      node = subst (λ j. IsNode bytes j x) read node;
       begins = ap (λ j. j .«r0_block») read;
       some = omega arith;
       most = omega arith;
       count = count;
-      ready = ready-below bytes x cs some ready;
+      ready = ready-below bytes x cs (node .some) ready;
       room = room;
     }
 
 -- ---- a list whose front is written
 
--- a pair put there, and then more behind it
+-- a pair put there, and then more after it
 pub pair-put : (x d : ℕ) (o : List ℕ) → 2 ≤ length o → set (set o 0 x) 1 d ≡ written (x ∷ d ∷ []) (set (set o 0 x) 1 d)
 pair-put x d [] h = absurd (omega arith)
 pair-put x d (a ∷ []) h = absurd (omega arith)
@@ -91,7 +93,8 @@ back w o fits out p ys n e en ey =
     let y : take (length out - n) (drop n out) ≡ drop n out = take-all (length out - n) (drop n out) (simp length-drop (omega arith)) in
     rw (ey, t, z, y, d, drop-drop, length-append) (simp (append-assoc, append-nil))
 
--- ---- while the children of node x are listed, where `left` levels are left: at first the cursors are cs₀ and the list out₀
+-- ---- while the children of node x are listed, where `left` levels are left: at first the cursors
+-- are cs₀ and the list out₀
 
 -- those up to a are listed
 pub record Going (bytes : List ℕ) (x left : ℕ) (cs₀ out₀ cs out : List ℕ) (filled a : ℕ) : Type 0 where

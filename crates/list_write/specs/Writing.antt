@@ -7,22 +7,18 @@ use Rattle.meaning.specs.Answers.{written}
 use Rattle.meaning.specs.Image.{parentsIn}
 use Rattle.meaning.specs.Listing.{listing}
 use Rattle.theory.specs.Stages.{nodesOf, r0Block}
-use Rattle.image_found.specs.declared.Checked.the-variants.{Sound}
-use Rattle.image_found.specs.Checked.{checked, layoutIn}
+use Rattle.image_found.specs.Checked.{layoutIn}
+use Rattle.nav_strings.specs.Nodes.{IsNode}
 use Rattle.list_measure.specs.Levels.{low, below}
 use Rattle.list_measure.specs.Cursors.{CursorsReady}
 
--- x is a node of a sound image
-pub record NodeIn (bytes : List ℕ) (x : ℕ) : Type 0 where
-  pub sound : checked bytes ≡ Sound (layoutIn bytes)
-  pub some : 1 ≤ x
-  pub most : x ≤ nodesOf bytes
-
--- once node x is listed: cursors that were ready for all below x and below the nodes after it, up to any z - 1, are ready for all below these
+-- once node x is listed: cursors that were ready for all below x and below the nodes after it, up
+-- to any z - 1, are ready for all below these
 abbrev pub MovedOn : List ℕ → ℕ → List ℕ → List ℕ → Type 0
 MovedOn bytes x before after = (z : ℕ) → x < z → CursorsReady (below bytes) before (low bytes x) (low bytes z) → CursorsReady (below bytes) after (low bytes (x + 1)) (low bytes z)
 
--- ---- listing node x where `left` of the 64 levels are left, its own among them: cursor 65 - left is that of its children
+-- ---- listing node x where `left` of the 64 levels are left, its own among them: cursor 65 - left
+-- is that of its children
 
 -- its pairs
 abbrev pub pairsOf : List ℕ → ℕ → ℕ → List ℕ
@@ -30,7 +26,7 @@ pairsOf bytes left x = listing left (parentsIn bytes) x (64 - left)
 
 -- what it needs
 pub record ToList (bytes : List ℕ) (zeros x left : ℕ) (cursors out : List ℕ) : Type 0 where
-  pub node : NodeIn bytes x
+  pub node : IsNode bytes (layoutIn bytes) x
   pub begins : zeros ≡ r0Block (nodesOf bytes)
   pub some : 1 ≤ left
   pub most : left ≤ 64

@@ -1,14 +1,18 @@
-// The pairs of a listing, written depth first.
+// A listing, written depth first by a function that calls itself on each child.
 ghost use mathlib.Core.Path.{_≡_};
 ghost use Rattle.meaning.specs.Bytes.{value};
 ghost use Rattle.theory.specs.ByStrings.{bitOf};
 ghost use Rattle.theory.specs.Stages.{nodesOf, readR1, readR0, r0Block};
-ghost use Rattle.list_write.specs.Writing.{NodeIn, ToList, Listed};
+ghost use Rattle.image_found.specs.Checked.{layoutIn};
+ghost use Rattle.nav_strings.specs.Nodes.{IsNode};
+ghost use Rattle.list_write.specs.Writing.{ToList, Listed};
 use image_string::string_bit;
 
-// Has node x a child, 1 or 0? R0's bit at x, where R0 begins at block `zeros`.
+// Has node x a child, 1 or 0? R0's bit at x, where R0 begins at block `zeros`. Not by the layout of
+// the image, as `nav_strings::bit_r0`: each call of `list_node` would copy it, and a listing would
+// take a tenth longer.
 fn has_child(b: &[u8], zeros: usize, x: u32) -> u8
-    requires { ⌜ NodeIn (now b) x ⌝ }
+    requires { ⌜ IsNode (now b) (layoutIn (now b)) x ⌝ }
     requires { ⌜ zeros ≡ r0Block (nodesOf (now b)) ⌝ }
     ensures { λ r. ⌜ r ≡ value (bitOf (readR0 (now (b .entry))) x) ⌝ }
 {
@@ -17,15 +21,17 @@ fn has_child(b: &[u8], zeros: usize, x: u32) -> u8
 
 // Is node x the last of its siblings, 1 or 0? R1's bit at x.
 fn is_last(b: &[u8], x: u32) -> u8
-    requires { ⌜ NodeIn (now b) x ⌝ }
+    requires { ⌜ IsNode (now b) (layoutIn (now b)) x ⌝ }
     ensures { λ r. ⌜ r ≡ value (bitOf (readR1 (now (b .entry))) x) ⌝ }
 {
     string_bit(b, 1, x as usize - 1)
 }
 
-// Lists node x where `left` of the 64 levels are left, its own among them: writes x and its depth at the front of `out`, and then lists each of its children
-// into what remains behind the pairs already written. Answers how many numbers it wrote.
-// The nodes of one depth are listed in the order of their numbers, so that the cursor of a depth finds the next one there: no rank or select.
+// Lists node x where `left` of the 64 levels are left, its own among them: writes x and its depth
+// at the front of `out`, and then lists each of its children into what remains after the pairs
+// already written. Answers how many numbers it wrote. The nodes of one depth are listed in the
+// order of their numbers, so that the cursor of a depth finds the next one there: no rank or
+// select.
 pub fn list_node(
     b: &[u8],
     zeros: usize,

@@ -1,4 +1,5 @@
--- Each definition at a point where a wrong one would differ (document 01, its cases, limits and traps), by computation.
+-- Each definition at a point where a wrong one would differ (document 01, its cases, limits and
+-- traps), by computation.
 use mathlib.Core.Path.{_≡_, refl}
 use mathlib.Core.Bool.{true, false}
 use mathlib.Core.List.{List, [], _∷_, _++_}

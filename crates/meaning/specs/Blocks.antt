@@ -43,7 +43,8 @@ unfoldable pub block : ℕ → List ℕ → List ℕ
 unfolding wordBytes words sums
 block start payload = payload ++ wordBytes (sums (words payload) start 0)
 
--- blocks with these payloads end to end, numbered from b; `start` says where the s of each block starts
+-- blocks with these payloads end to end, numbered from b; `start` says where the s of each block
+-- starts
 unfoldable pub sealed : (start : ℕ → ℕ) → List (List ℕ) → ℕ → List ℕ
 unfolding padded block
 sealed start [] b = []
@@ -65,7 +66,8 @@ cut (suc k) n xs = take n xs ∷ cut k n (drop n xs)
 abbrev pub blocksIn : List ℕ → ℕ
 blocksIn bytes = length bytes / 512
 
--- the lowest of these blocks whose s or t is wrong, numbered from b; the number after the last if there is none
+-- the lowest of these blocks whose s or t is wrong, numbered from b; the number after the last if
+-- there is none
 unfoldable pub wrongFrom : (start : ℕ → ℕ) → List (List ℕ) → ℕ → ℕ
 unfolding block
 wrongFrom start [] b = b

@@ -1,4 +1,5 @@
--- The depth-first listing (document 01, "Splitting, joining, listing"): node and depth, two numbers to a node.
+-- The depth-first listing (document 01, "Splitting, joining, listing"): node and depth, two numbers
+-- to a node.
 use mathlib.Core.List.{List, [], _∷_, _++_}
 use mathlib.Core.Bool.{cond}
 use Prim.Native.Nat.{ℕ, zero, suc}

@@ -1,4 +1,5 @@
--- Packs: strings end to end, and where each tree starts (document 01, "Splitting, joining, listing").
+-- Packs: strings end to end, and where each tree starts (document 01, "Splitting, joining,
+-- listing").
 use mathlib.Core.List.{List, [], _∷_, map}
 use mathlib.Core.Option.{Option, none, some}
 use Prim.Native.Nat.{ℕ, zero, suc, _+_, _-_, _*_}
@@ -19,7 +20,8 @@ sizesOf ts = map nodes ts
 
 -- ---- The same, read off the bits.
 
--- a tree is over at the first bit where no node is pending; it has the nodes that are no longer allowed
+-- a tree is over at the first bit where no node is pending; it has the nodes that are no longer
+-- allowed
 abbrev pub noteSize : State → Bit → List ℕ → List ℕ
 noteSize (closed k) b rest = rest
 noteSize (begun k) b rest = rest

@@ -7,7 +7,8 @@ use lib.Dec.{leb, eqb}
 use lib.ListN.{length, getD, replicate}
 use Rattle.meaning.specs.Trees.{Tree, degrees}
 
--- ---- The parent list of a tree: 0 for the root; then node x, from 1 on, is the parent of as many nodes as it has children.
+-- ---- The parent list of a tree: 0 for the root; then node x, from 1 on, is the parent of as many
+-- nodes as it has children.
 
 abbrev pub each : ℕ → List ℕ → List ℕ
 each x [] = []
@@ -24,7 +25,8 @@ abbrev pub entry : List ℕ → ℕ → ℕ
 entry ps zero = 0
 entry ps (suc i) = getD ps i 0
 
--- entry i keeps the rule: the first is 0, and each later entry i is between 1 and i - 1 and not below the entry before it
+-- entry i keeps the rule: the first is 0, and each later entry i is between 1 and i - 1 and not
+-- below the entry before it
 abbrev pub Rule : List ℕ → ℕ → Type 0
 Rule ps zero = Unit
 Rule ps (suc zero) = entry ps 1 ≡ 0
@@ -43,7 +45,8 @@ pub record Lowest (ps : List ℕ) (r : ℕ) : Type 0 where
 
 -- ---- The same from left to right.
 
--- the first entry that breaks the rule, after i entries of which the last was low (1 after the first): 0 if there is none
+-- the first entry that breaks the rule, after i entries of which the last was low (1 after the
+-- first): 0 if there is none
 unfoldable pub badFrom : List ℕ → ℕ → ℕ → ℕ
 badFrom [] i low = 0
 badFrom (p ∷ ps) i low = let rest = badFrom ps (suc i) p in cond (leb low p && leb p i) rest (suc i)

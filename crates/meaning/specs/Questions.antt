@@ -1,4 +1,5 @@
--- Questions and their answers, from the lists of children and siblings (document 01, "Questions"). Number 0 is no node.
+-- Questions and their answers, from the lists of children and siblings (document 01, "Questions").
+-- Number 0 is no node.
 use mathlib.Core.Bool.{Bool, true, false, cond, _&&_}
 use mathlib.Core.List.{List, [], _∷_}
 use mathlib.Core.Option.{Option, none, some}

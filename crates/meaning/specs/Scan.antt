@@ -1,4 +1,5 @@
--- Reading bits: which are the string of a tree, or strings end to end, and where others are refused (document 01, code 4).
+-- Reading bits: which are the string of a tree, or strings end to end, and where others are refused
+-- (document 01, code 4).
 use mathlib.Core.Path.{_≡_}
 use mathlib.Core.List.{List, [], _∷_, _++_}
 use mathlib.Core.Option.{Option, none, some}
@@ -37,14 +38,16 @@ pub record Place (kind : Kind) (bs : List Bit) (p : ℕ) : Type 0 where
   pub before : (q : ℕ) → q < p → Begins kind (take q bs)
   pub here : p ≤ length bs → Begins kind (take p bs) → ⊥
 
--- ---- How it is read, from left to right: a tree is over at the first bit where no node is pending.
+-- ---- How it is read, from left to right: a tree is over at the first bit where no node is
+-- pending.
 
 pub data State : Type 0 where
   -- k trees are over and none is open
   closed : (k : ℕ) → State
   -- the first bit of tree k + 1 was read
   begun : (k : ℕ) → State
-  -- tree k + 1 is open: p nodes are pending besides the one that is read, and m more nodes are allowed
+  -- tree k + 1 is open: p nodes are pending besides the one that is read, and m more nodes are
+  -- allowed
   inside : (k p m : ℕ) → State
 
 -- may tree k + 1 begin?

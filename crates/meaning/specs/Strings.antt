@@ -1,4 +1,5 @@
--- Tree strings and their two parts (document 01, "Tree string" and "Partitioned strings"; source document 003, sections 3 and 3.2).
+-- Tree strings and their two parts (document 01, "Tree string" and "Partitioned strings"; source
+-- document 003, sections 3 and 3.2).
 use mathlib.Core.List.{List, [], _∷_, _++_, map}
 use Prim.Native.Nat.{ℕ, zero, suc, _+_, _-_}
 use lib.ListN.{length, replicate}
@@ -23,7 +24,8 @@ positions [] i = []
 positions (O ∷ bs) i = positions bs (suc i)
 positions (I ∷ bs) i = i ∷ positions bs (suc i)
 
--- ---- The string of a tree: 10 for the super-root, then for each node in level order as many 1s as it has children and one 0.
+-- ---- The string of a tree: 10 for the super-root, then for each node in level order as many 1s as
+-- it has children and one 0.
 
 abbrev pub unary : List ℕ → List Bit
 unary [] = []
@@ -37,7 +39,8 @@ lbs t = I ∷ O ∷ unary (degrees t)
 abbrev pub strings : List Tree → List Bit
 strings ts = endToEnd (map lbs ts)
 
--- ---- A run of l equal bits becomes l - 1 zeros and a 1. R1 is made of the runs of ones, R0 of the runs of zeros.
+-- ---- A run of l equal bits becomes l - 1 zeros and a 1. R1 is made of the runs of ones, R0 of the
+-- runs of zeros.
 
 pub data Run : Type 0 where
   -- l + 1 bits b
@@ -71,7 +74,7 @@ R0 bs = marks O (runs bs)
 
 -- ---- From one form to another.
 
--- parents of a string: for each one how many zeros stand before it, after z zeros
+-- parents of a string: for each one how many zeros are before it, after z zeros
 abbrev pub zerosBefore : List Bit → ℕ → List ℕ
 zerosBefore [] z = []
 zerosBefore (I ∷ bs) z = z ∷ zerosBefore bs z
@@ -80,7 +83,8 @@ zerosBefore (O ∷ bs) z = zerosBefore bs (suc z)
 unfoldable pub parentsOf : List Bit → List ℕ
 parentsOf bs = zerosBefore bs 0
 
--- string of a parent list: before entry p as many zeros as bring their number from z to p, and at the end to n
+-- string of a parent list: before entry p as many zeros as bring their number from z to p, and at
+-- the end to n
 abbrev pub stringFrom : List ℕ → ℕ → ℕ → List Bit
 stringFrom [] z n = replicate (n - z) O
 stringFrom (p ∷ ps) z n = replicate (p - z) O ++ I ∷ stringFrom ps p n
@@ -88,7 +92,8 @@ stringFrom (p ∷ ps) z n = replicate (p - z) O ++ I ∷ stringFrom ps p n
 unfoldable pub stringOf : List ℕ → List Bit
 stringOf ps = stringFrom ps 0 (length ps + 1)
 
--- string of two parts: runs of ones and of zeros in turn, beginning with a run of bits b; f is at least its length
+-- string of two parts: runs of ones and of zeros in turn, beginning with a run of bits b; f is at
+-- least its length
 abbrev pub weave : ℕ → Bit → List Bit → List Bit → List Bit
 weave zero b r1 r0 = []
 weave (suc f) I [] r0 = []

@@ -1,4 +1,5 @@
--- Tests that several calls make, in the order of document 01's table ("Numbers a caller gets back").
+-- Tests that several calls make, in the order of document 01's table ("Numbers a caller gets
+-- back").
 use mathlib.Core.Bool.{Bool, not, _||_}
 use mathlib.Core.List.{List, [], _∷_}
 use Prim.Native.Nat.{ℕ, _+_, _*_, _/_, _%_}
@@ -29,7 +30,8 @@ wrongSize image = not (eqb (length image % 512) 0) || outside 5 53 (length image
 unfoldable pub wrongToSplit : ℕ → ℕ → ℕ → Bool
 wrongToSplit bytes L k = ltb 131071 L || not (eqb bytes (bytesFor L)) || ltb 256 k
 
--- joining: parent list not of 1 to 65,535 numbers; L over 131,071; too few bytes for L; k over 255; joined length over 131,071
+-- joining: parent list not of 1 to 65,535 numbers; L over 131,071; too few bytes for L; k over 255;
+-- joined length over 131,071
 unfoldable pub wrongToJoin : ℕ → ℕ → ℕ → ℕ → Bool
 wrongToJoin bytes L k nodes =
     outside 1 65535 nodes || ltb 131071 L || ltb bytes (bytesFor L) || ltb 255 k || ltb 131071 (L + (2 * nodes + 1))
@@ -43,7 +45,8 @@ parentRows ps =
     ∷ 3 at badEntry ps when ltb 0 (badEntry ps)
     ∷ []
 
--- every public reading of an image makes the whole check first; w: something else that is lent has a wrong size
+-- every public reading of an image makes the whole check first; w: something else that is lent has
+-- a wrong size
 unfoldable pub checkRows : List ℕ → Bool → List Row
 checkRows image w =
     2 at 0 when (wrongSize image || w)

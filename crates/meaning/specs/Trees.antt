@@ -24,7 +24,8 @@ children (node f) = listed f
 abbrev pub degree : Tree → ℕ
 degree t = length (children t)
 
--- ---- A node of a tree is known by its address: [] is the root's, and i ∷ a that of child number i, from 1, of the node at a.
+-- ---- A node of a tree is known by its address: [] is the root's, and i ∷ a that of child number
+-- i, from 1, of the node at a.
 
 pub record Node : Type 0 where
   pub address : List ℕ

@@ -1,6 +1,7 @@
-// What every call answers, the codes and the limits of document 01.
+// What everything means (specs), and in code what a call answers, the codes and the limits.
 
-// A code, the place that goes with it, and two counts. On refusal the counts are 0; on code 0 the place is 0.
+// A code, the place that goes with it, and two counts. On refusal the counts are 0; on code 0 the
+// place is 0.
 #[repr(C)]
 pub struct Answer {
     pub code: u32,
@@ -15,7 +16,8 @@ pub struct Refusal {
     pub place: u32,
 }
 
-// What tests in the order of the table find: none of them holds, or the refusal of the first that does.
+// What tests in the order of the table find: none of them holds, or the refusal of the first that
+// does.
 pub enum Verdict {
     Passed,
     Refused(Refusal),

@@ -6,22 +6,22 @@ use native.Mathlib.Omega.{arith}
 use native.Mathlib.Decide.{decLe}
 use lib.IntN.{ℤ, pos, negsuc}
 use lib.ListN.{length}
-use Rattle.meaning.specs.Strings.{Bit}
+use Rattle.meaning.specs.Strings.{Bit, O, I}
 use Rattle.meaning.specs.Bytes.{value}
 use Rattle.meaning.specs.Image.{parentsIn}
-use Rattle.meaning.specs.Questions.{Ask, parent, firstChild, lastChild, degree, child, answer}
+use Rattle.meaning.specs.Questions.{Ask, parent, firstChild, lastChild, degree, child, leaf, answer}
 use Rattle.theory.specs.Rank.{onesLeft, position}
-use Rattle.theory.specs.ByStrings.{bitOf, within, before, parentOf, childBy, byStrings}
+use Rattle.theory.specs.ByStrings.{whereZero, bitOf, within, before, parentOf, childBy, byStrings}
 use Rattle.theory.specs.Stages.{readR1, readR0}
 use Rattle.theory.proofs.ByStrings.{within-there, within-low, within-high}
 use Rattle.image_layout.specs.declared.Layout.{Layout}
-use Rattle.image_found.specs.declared.Checked.the-variants.{Sound}
-use Rattle.image_found.specs.Checked.{checked}
 use Rattle.bits_byte.proofs.Values.{is-I}
 use Rattle.ask_argument.specs.Values.{moved}
+use Rattle.nav_children.specs.declared.Children.{Children}
+use Rattle.nav_children.specs.Children.{ChildrenAt}
 use Rattle.nav_sibling_range.proofs.Counting.{left-next, left-after-one, position-less}
-use Rattle.nav_sibling_range.proofs.Own.{strings, more0, placed1}
-use Rattle.by_bit.proofs.Bits as Bits
+use Rattle.nav_strings.specs.Nodes.{IsNode}
+use Rattle.nav_sibling_range.proofs.Own.{strings, given, more0, placed1, small-before}
 
 -- nothing is within bounds that meet
 between-none : (low high y : ℕ) → high ≤ low → within low high y ≡ 0
@@ -38,7 +38,7 @@ module _ (r1 r0 : List Bit) where
   before-at zero h = absurd (omega arith)
   before-at (suc z) h = refl
 
-  -- children stand between the ones before zero x and those before zero x + 1
+  -- the children are between the ones before zero x and those before zero x + 1
   module _ (x : ℕ) (g : 1 ≤ x) (h : x ≤ length r0) where
     childless : value (bitOf r0 x) ≡ 0 → before r1 r0 (suc x) ≡ before r1 r0 x
     childless e =
@@ -60,7 +60,7 @@ module _ (r1 r0 : List Bit) where
 
 -- ---- the strings of a sound image, and a node
 
-module _ (bytes : List ℕ) (i : Layout) (found : checked bytes ≡ Sound i) (x : ℕ) (g : 1 ≤ x) (h : x ≤ i .nodes) where
+module _ {bytes : List ℕ} {i : Layout} {x : ℕ} (node : IsNode bytes i x) where
   abbrev r1 : List Bit
   r1 = readR1 bytes
 
@@ -70,105 +70,127 @@ module _ (bytes : List ℕ) (i : Layout) (found : checked bytes ≡ Sound i) (x 
   abbrev Answers : Ask → ℤ → ℕ → Type 0
   Answers ask z y = y ≡ answer (parentsIn bytes) ask x z
 
-  given : (ask : Ask) (z : ℤ) (y : ℕ) → y ≡ byStrings r1 r0 ask x z → Answers ask z y
-  given = Bits.given bytes i found x g h
-
   in-r0 : x ≤ length r0
-  in-r0 = omega (arith, strings bytes i found .length0)
+  in-r0 = omega (arith, node .most, strings bytes i (node .sound) .length0)
 
   -- ---- parent
 
   pub parent-given : (k y : ℕ) → k ≡ onesLeft r1 x → y ≡ position r0 k → Answers parent (pos 0) y
   unfolding byStrings parentOf
-  parent-given k y e f = given parent (pos 0) y (f ∙ ap (position r0) e)
+  parent-given k y e f = given node parent (pos 0) y (f ∙ ap (position r0) e)
 
-  -- ---- children
+  -- ---- leaf
+
+  pub leaf-given : (bit : ℕ) → bit ≡ value (bitOf r0 x) → Answers leaf (pos 0) (1 - bit)
+  unfolding byStrings value
+  leaf-given bit e = given node leaf (pos 0) (1 - bit) (ap (λ n. 1 - n) e ∙ go (bitOf r0 x))
+    where
+      go : (v : Bit) → 1 - value v ≡ whereZero v 1 0
+      go O = refl
+      go I = refl
+
+  -- ---- no children
 
   module _ (bit : ℕ) (read : bit ≡ value (bitOf r0 x)) (none : bit ≡ 0) where
-    bare : value (bitOf r0 x) ≡ 0
-    bare = sym read ∙ none
-
     met : before r1 r0 (suc x) ≡ before r1 r0 x
-    met = childless r1 r0 x g in-r0 bare
+    met = childless r1 r0 x (node .some) in-r0 (sym read ∙ none)
 
     pub first-none : Answers firstChild (pos 0) 0
     unfolding byStrings
-    first-none = given firstChild (pos 0) 0 (sym (between-none (before r1 r0 x) (before r1 r0 (suc x)) (before r1 r0 x + 1) (omega (arith, met))))
+    first-none = given node firstChild (pos 0) 0 (sym (between-none (before r1 r0 x) (before r1 r0 (suc x)) (before r1 r0 x + 1) (omega (arith, met))))
 
     pub last-none : Answers lastChild (pos 0) 0
     unfolding byStrings
-    last-none = given lastChild (pos 0) 0 (sym (between-none (before r1 r0 x) (before r1 r0 (suc x)) (before r1 r0 (suc x)) (omega (arith, met))))
+    last-none = given node lastChild (pos 0) 0 (sym (between-none (before r1 r0 x) (before r1 r0 (suc x)) (before r1 r0 (suc x)) (omega (arith, met))))
 
     pub degree-none : Answers degree (pos 0) 0
     unfolding byStrings
-    degree-none = given degree (pos 0) 0 (omega (arith, met))
+    degree-none = given node degree (pos 0) 0 (omega (arith, met))
 
     pub child-none : (z : ℤ) → Answers child z 0
     unfolding byStrings
-    child-none z = given child z 0 (sym (child-within r1 r0 x g in-r0 z ∙ between-none (before r1 r0 x) (before r1 r0 (suc x)) (moved (before r1 r0 x) z) (omega (arith, met))))
+    child-none z = given node child z 0 (sym (child-within r1 r0 x (node .some) in-r0 z ∙ between-none (before r1 r0 x) (before r1 r0 (suc x)) (moved (before r1 r0 x) z) (omega (arith, met))))
 
-  module _ (bit : ℕ) (read : bit ≡ value (bitOf r0 x)) (some : bit ≡ 0 → ⊥) where
-    set : value (bitOf r0 x) ≡ 1
-    unfolding value
-    set = ap value (is-I (bitOf r0 x) bit read some)
+  -- ---- children
 
+  pub has-child : (bit : ℕ) → bit ≡ value (bitOf r0 x) → (bit ≡ 0 → ⊥) → value (bitOf r0 x) ≡ 1
+  unfolding value
+  has-child bit read some = ap value (is-I (bitOf r0 x) bit read some)
+
+  module _ (one : value (bitOf r0 x) ≡ 1) where
     -- the next run of zeros has its one too
     pub one-more : onesLeft r0 x + 2 ≤ i .runs
-    one-more = omega (arith, set, left-next r0 x g in-r0, more0 bytes i found (suc x) (omega arith) (omega arith))
+    one-more = omega (arith, node .most, left-next r0 x (node .some) in-r0, more0 bytes i (node .sound) (suc x) (omega arith) (omega (arith, node .most)))
 
-    pub apart : (k : ℕ) → k ≡ onesLeft r0 x → position r1 (k + 1) < position r1 (k + 2)
+    apart : (k : ℕ) → k ≡ onesLeft r0 x → position r1 (k + 1) < position r1 (k + 2)
     apart k e =
         omega (
           arith,
-          position-less r1 (k + 1) (omega (arith, one-more, strings bytes i found .ended1 .count)),
+          position-less r1 (k + 1) (omega (arith, one-more, strings bytes i (node .sound) .ended1 .count)),
           ap (position r1) (let f : suc (k + 1) ≡ k + 2 = omega arith in f),
         )
 
     children : before r1 r0 x < before r1 r0 (suc x)
-    children = omega (arith, apart (onesLeft r0 x) refl, children-low r1 r0 x g in-r0, children-high r1 r0 x g in-r0 set)
+    children = omega (arith, apart (onesLeft r0 x) refl, children-low r1 r0 x (node .some) in-r0, children-high r1 r0 x (node .some) in-r0 one)
 
     pub first-some : (y : ℕ) → y ≡ before r1 r0 x → Answers firstChild (pos 0) (y + 1)
     unfolding byStrings
     first-some y e =
-        given firstChild (pos 0) (y + 1) (
+        given node firstChild (pos 0) (y + 1) (
         ap (λ n. n + 1) e ∙ sym (within-there (before r1 r0 x) (before r1 r0 (suc x)) (before r1 r0 x + 1) (omega arith) (omega (arith, children)))
         )
+
+    -- the ones before zero x + 1
+    next-zero : (y : ℕ) → y ≡ before r1 r0 (x + 1) → y ≡ before r1 r0 (suc x)
+    next-zero y e = e ∙ ap (before r1 r0) (let f : x + 1 ≡ suc x = omega arith in f)
 
     pub last-some : (y : ℕ) → y ≡ before r1 r0 (x + 1) → Answers lastChild (pos 0) y
     unfolding byStrings
     last-some y e =
-        given lastChild (pos 0) y (
-        e ∙ ap (before r1 r0) (let f : x + 1 ≡ suc x = omega arith in f)
-        ∙ sym (within-there (before r1 r0 x) (before r1 r0 (suc x)) (before r1 r0 (suc x)) children (omega arith))
+        given node lastChild (pos 0) y (
+        next-zero y e ∙ sym (within-there (before r1 r0 x) (before r1 r0 (suc x)) (before r1 r0 (suc x)) children (omega arith))
         )
 
-    module _ (k low : ℕ) (left : k ≡ onesLeft r0 x) (from : low ≡ position r1 (k + 1)) where
-      pub next-there : low + 1 ≤ i .nodes
-      next-there = omega (arith, apart k left, placed1 bytes i found (k + 2))
+    -- ---- both ends, as they are found
 
-      low-is : low ≡ before r1 r0 x
-      low-is = from ∙ ap (λ n. position r1 (n + 1)) left ∙ sym (children-low r1 r0 x g in-r0)
+    module _ (k after : ℕ) (left : k ≡ onesLeft r0 x) (from : after ≡ position r1 (k + 1)) where
+      -- the next one comes after node `after`, so that it is not the last node
+      pub next-there : after + 1 ≤ i .nodes
+      next-there = omega (arith, apart k left, placed1 bytes i (node .sound) (k + 2))
 
-      module _ (high : ℕ) (to : high ≡ position r1 (onesLeft r1 (low + 1) + 1)) where
-        -- the first one after one number k + 1
-        after : onesLeft r1 (low + 1) ≡ k + 1
-        after =
-            ap (onesLeft r1) (let e : low + 1 ≡ suc (position r1 (k + 1)) = omega arith in e)
-            ∙ left-after-one r1 (k + 1) (omega (arith, one-more, strings bytes i found .ended1 .count))
+      pub after-is : after ≡ before r1 r0 x
+      after-is = from ∙ ap (λ n. position r1 (n + 1)) left ∙ sym (children-low r1 r0 x (node .some) in-r0)
 
-        high-at : high ≡ position r1 (k + 2)
-        high-at = to ∙ ap (position r1) (let e : onesLeft r1 (low + 1) + 1 ≡ k + 2 = omega (arith, after) in e)
+      -- the first one after one number k + 1
+      left-of-next : onesLeft r1 (after + 1) ≡ k + 1
+      left-of-next =
+          ap (onesLeft r1) (let e : after + 1 ≡ suc (position r1 (k + 1)) = omega arith in e)
+          ∙ left-after-one r1 (k + 1) (omega (arith, one-more, strings bytes i (node .sound) .ended1 .count))
 
-        high-is : high ≡ before r1 r0 (suc x)
-        high-is = high-at ∙ ap (λ n. position r1 (n + 2)) left ∙ sym (children-high r1 r0 x g in-r0 set)
+      pub last-is : (last : ℕ) → last ≡ position r1 (onesLeft r1 (after + 1) + 1) → last ≡ before r1 r0 (x + 1)
+      last-is last to =
+          to ∙ ap (position r1) (let e : onesLeft r1 (after + 1) + 1 ≡ onesLeft r0 x + 2 = omega (arith, left-of-next) in e)
+          ∙ sym (children-high r1 r0 x (node .some) in-r0 one) ∙ ap (before r1 r0) (let f : suc x ≡ x + 1 = omega arith in f)
 
-        pub above : low < high
-        above = omega (arith, apart k left, high-at)
+    -- ---- what both ends give
 
-        pub degree-some : Answers degree (pos 0) (high - low)
-        unfolding byStrings
-        degree-some = given degree (pos 0) (high - low) (ap₂ _-_ high-is low-is)
+    module _ (r : Children) (at : ChildrenAt bytes x r) where
+      pub above : r .after < r .last
+      above = omega (arith, at .after, next-zero (r .last) (at .last), children)
 
-        pub child-some : (y : ℕ) (z : ℤ) → y ≡ within low high (moved low z) → Answers child z y
-        unfolding byStrings
-        child-some y z f = given child z y (f ∙ ap₂ (λ a b. within a b (moved a z)) low-is high-is ∙ sym (child-within r1 r0 x g in-r0 z))
+      pub small : (r .after ≤ 65535) × (r .last ≤ 65535)
+      small = (
+        omega (arith, at .after, small-before bytes i (node .sound) x),
+        omega (arith, at .last, small-before bytes i (node .sound) (x + 1)),
+      )
+
+      pub degree-some : Answers degree (pos 0) (r .last - r .after)
+      unfolding byStrings
+      degree-some = given node degree (pos 0) (r .last - r .after) (ap₂ _-_ (next-zero (r .last) (at .last)) (at .after))
+
+      pub child-some : (y : ℕ) (z : ℤ) → y ≡ within (r .after) (r .last) (moved (r .after) z) → Answers child z y
+      unfolding byStrings
+      child-some y z f =
+          given node child z y (
+          f ∙ ap₂ (λ a b. within a b (moved a z)) (at .after) (next-zero (r .last) (at .last)) ∙ sym (child-within r1 r0 x (node .some) in-r0 z)
+          )

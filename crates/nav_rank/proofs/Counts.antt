@@ -81,7 +81,7 @@ module _ (bytes : List ℕ) (first n : ℕ) (kept : CountsAndPadding bytes first
   pub kept-count : (j : ℕ) → j < stringBlocks n → wordAt bytes (512 * (first + j)) ≡ onesTo bytes first (4000 * j)
   kept-count j h = kept .counts j (omega (arith, length-stringIn bytes first 0 n)) ∙ onesTo-take bytes first (4000 * j) n (omega arith)
 
-  -- behind the string there are none
+  -- after the string there are none
   unused-more : (d : ℕ) → n + d ≤ 4000 * stringBlocks n → onesTo bytes first (n + d) ≡ onesTo bytes first n
   unfolding value
   unused-more zero h = ap (onesTo bytes first) (let e : n + 0 ≡ n = omega arith in e)

@@ -1,7 +1,8 @@
-// Rank in a string of blocks: how many ones stand left of a position.
+// Rank in a string that lies in blocks: the ones left of a position, from the nearer block end.
 ghost use mathlib.Core.Path.{_≡_};
 ghost use Prim.Native.Nat.{_+_, _*_, _≤_, _<_};
 ghost use lib.ListN.{length};
+ghost use Rattle.theory.specs.Bounds.{mostBlock};
 ghost use Rattle.meaning.specs.Strings.{ones};
 ghost use Rattle.meaning.specs.Bytes.{bitsFrom};
 ghost use Rattle.meaning.specs.Image.{stringBlocks, stringIn};
@@ -28,10 +29,11 @@ fn ones_in_words(b: &[u8], at: usize, k: usize) -> u32
     count
 }
 
-// How many ones of a string come before bit p of its block j, counted from the beginning of that block.
+// How many ones of a string come before bit p of its block j, counted from the beginning of that
+// block.
 fn from_front(b: &[u8], first: usize, j: usize, p: usize) -> usize
     requires { ⌜ p < 4000 ⌝ }
-    requires { ⌜ first + j ≤ 106 ⌝ }
+    requires { ⌜ first + j ≤ mostBlock + mostBlock ⌝ }
     requires { ⌜ 512 * (first + j + 1) ≤ length (now b) ⌝ }
     requires { ⌜ wordAt (now b) (512 * (first + j)) ≡ onesTo (now b) first (4000 * j) ⌝ }
     ensures { λ r. ⌜ r ≡ onesTo (now (b .entry)) first (4000 * j + p) ⌝ }
@@ -42,10 +44,11 @@ fn from_front(b: &[u8], first: usize, j: usize, p: usize) -> usize
         + ones_before(b, start + 8 * (p / 64), p % 64) as usize
 }
 
-// The same, counted from the end of the block, before which there are `end` ones: without those from the word of bit p on, of which the last is half a word, but for those before p.
+// The same, counted from the end of the block, before which there are `end` ones: without those
+// from the word of bit p on, of which the last is half a word, but for those before p.
 fn from_behind(b: &[u8], first: usize, j: usize, p: usize, end: usize) -> usize
     requires { ⌜ p < 4000 ⌝ }
-    requires { ⌜ first + j ≤ 106 ⌝ }
+    requires { ⌜ first + j ≤ mostBlock + mostBlock ⌝ }
     requires { ⌜ 512 * (first + j + 1) ≤ length (now b) ⌝ }
     requires { ⌜ end ≤ 65536 ⌝ }
     requires { ⌜ end ≡ onesTo (now b) first (4000 * (j + 1)) ⌝ }
@@ -58,11 +61,12 @@ fn from_behind(b: &[u8], first: usize, j: usize, p: usize, end: usize) -> usize
         - ones_before(b, start + 496, 32) as usize
 }
 
-// How many ones of a string of n bits, m of them ones, come before the end of its block j: as the next block says, or all.
+// How many ones of a string of n bits, m of them ones, come before the end of its block j: as the
+// next block says, or all.
 fn ones_to_end(b: &[u8], first: usize, n: usize, m: usize, j: usize) -> usize
     requires { ⌜ n ≤ 65536 ⌝ }
     requires { ⌜ m ≡ ones (stringIn (now b) first 0 n) ⌝ }
-    requires { ⌜ first ≤ 53 ⌝ }
+    requires { ⌜ first ≤ mostBlock ⌝ }
     requires { ⌜ 512 * (first + stringBlocks n) ≤ length (now b) ⌝ }
     requires { ⌜ CountsAndPadding (now b) first (stringIn (now b) first 0 n) ⌝ }
     requires { ⌜ j < stringBlocks n ⌝ }
@@ -74,13 +78,14 @@ fn ones_to_end(b: &[u8], first: usize, n: usize, m: usize, j: usize) -> usize
     word(b, 512 * (first + j + 1)) as usize
 }
 
-// How many ones stand left of position x, from 1, in the string of n bits, m of them ones, whose blocks begin at block `first`: from the nearer end of its block.
+// How many ones are left of position x, from 1, in the string of n bits, m of them ones, whose
+// blocks begin at block `first`: from the nearer end of its block.
 pub fn rank(b: &[u8], first: usize, n: usize, m: usize, x: usize) -> usize
     requires { ⌜ 1 ≤ x ⌝ }
     requires { ⌜ x ≤ n ⌝ }
     requires { ⌜ n ≤ 65536 ⌝ }
     requires { ⌜ m ≡ ones (stringIn (now b) first 0 n) ⌝ }
-    requires { ⌜ first ≤ 53 ⌝ }
+    requires { ⌜ first ≤ mostBlock ⌝ }
     requires { ⌜ 512 * (first + stringBlocks n) ≤ length (now b) ⌝ }
     requires { ⌜ CountsAndPadding (now b) first (stringIn (now b) first 0 n) ⌝ }
     ensures { λ r. ⌜ r ≡ onesLeft (stringIn (now (b .entry)) first 0 n) x ⌝ }

@@ -18,7 +18,7 @@ use Rattle.image_string.specs.Parts.{onesTo}
 use Rattle.image_string.proofs.Ones.{onesTo-take}
 use Rattle.bits_select.proofs.Reaching.{same-place}
 
--- one number k, which stands in block j, by bit i of that block
+-- one number k, which is in block j, by bit i of that block
 module _ (bytes : List ℕ) (first n i more j k : ℕ) (block : i / 4000 ≡ j) (number : onesTo bytes first i + more + 1 ≡ k) (inside : k ≤ onesTo bytes first (4000 * (j + 1))) where
   pub one-there-after : onesTo bytes first i + more < onesTo bytes first (4000 * (i / 4000 + 1))
   one-there-after = omega (arith, ap (λ t. onesTo bytes first (4000 * (t + 1))) block)

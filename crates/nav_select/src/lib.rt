@@ -1,7 +1,8 @@
-// Select in a string of blocks: the position of a one.
+// Select in a string that lies in blocks: the position of a one, from the sample before it.
 ghost use mathlib.Core.Path.{_≡_};
 ghost use Prim.Native.Nat.{_+_, _*_, _≤_};
 ghost use lib.ListN.{length};
+ghost use Rattle.theory.specs.Bounds.{mostBlock};
 ghost use Rattle.meaning.specs.Strings.{ones};
 ghost use Rattle.meaning.specs.Image.{stringBlocks, stringIn};
 ghost use Rattle.theory.specs.Rank.{position};
@@ -10,16 +11,17 @@ use image_words::word;
 use nav_select_in_block::block_of;
 use nav_select_in_block::place_after;
 
-// The position, from 1, of one number k of the string of n bits, m of them ones, whose blocks begin at block `first` and whose samples begin at block `from`:
+// The position, from 1, of one number k of the string of n bits, m of them ones, whose blocks begin
+// at block `first` and whose samples begin at block `from`:
 // from the sample before it, or from the beginning of its block if that comes later.
 pub fn select(b: &[u8], first: usize, n: usize, from: usize, m: usize, k: usize) -> usize
     requires { ⌜ 1 ≤ k ⌝ }
     requires { ⌜ k ≤ m ⌝ }
     requires { ⌜ n ≤ 65536 ⌝ }
     requires { ⌜ m ≡ ones (stringIn (now b) first 0 n) ⌝ }
-    requires { ⌜ first ≤ 53 ⌝ }
-    requires { ⌜ from ≤ 53 ⌝ }
-    requires { ⌜ length (now b) ≤ 512 * 53 ⌝ }
+    requires { ⌜ first ≤ mostBlock ⌝ }
+    requires { ⌜ from ≤ mostBlock ⌝ }
+    requires { ⌜ length (now b) ≤ 512 * mostBlock ⌝ }
     requires { ⌜ 512 * (first + stringBlocks n) ≤ length (now b) ⌝ }
     requires { ⌜ 512 * (from + blocksOfSamples m) ≤ length (now b) ⌝ }
     requires { ⌜ CountsAndPadding (now b) first (stringIn (now b) first 0 n) ⌝ }

@@ -19,7 +19,7 @@ use Rattle.image_string.specs.Parts.{onesTo}
 use Rattle.image_string.proofs.Ones.{onesTo-cut}
 use Rattle.bits_select.proofs.Reaching.{ones-mono, same-place, past-place}
 
--- bits of a string that stand in one block
+-- bits of a string that are in one block
 string-run : (bytes : List ℕ) (first s k : ℕ) → s % 4000 + k ≤ 4000 → stringIn bytes first s k ≡ bitsFrom bytes (bitPlace first s) k
 string-run bytes first s k h =
     let l = length-stringIn bytes first s k in
@@ -32,7 +32,8 @@ string-run bytes first s k h =
     place i g = omega arith
 
 module _ (bytes : List ℕ) (first i : ℕ) where
-  -- the byte of bit i, how many bits come before that byte, and how many before the end of the block
+  -- the byte of bit i, how many bits come before that byte, and how many before the end of the
+  -- block
   abbrev at : ℕ
   at = 512 * (first + i / 4000) + 4 + i % 4000 / 8
 
@@ -56,7 +57,7 @@ module _ (bytes : List ℕ) (first i : ℕ) where
         ∙ sym (onesTo-cut bytes first start (i % 8))
         ∙ ap (onesTo bytes first) (let e : start + i % 8 ≡ i = omega arith in e)
 
-    -- the one that is looked for stands in the rest of the block
+    -- the one that is looked for is in the rest of the block
     pub after-there : passed + more + 1 ≤ ones (bitsFrom bytes (8 * at) (end - start))
     after-there =
         omega (

@@ -1,7 +1,8 @@
-// The block of a one in a string of blocks, and its place in that block.
+// The block of a one in a string that lies in blocks, and its place in that block.
 ghost use mathlib.Core.Path.{_≡_};
 ghost use Prim.Native.Nat.{_+_, _*_, _/_, _≤_, _<_};
 ghost use lib.ListN.{length};
+ghost use Rattle.theory.specs.Bounds.{mostBlock};
 ghost use Rattle.meaning.specs.Image.{stringBlocks, stringIn};
 ghost use Rattle.theory.specs.Rank.{position};
 ghost use Rattle.theory.specs.Stages.{CountsAndPadding};
@@ -10,11 +11,12 @@ use bits_byte::ones_in_front;
 use bits_select::place_from;
 use image_words::word;
 
-// Of the ones after the first i bits of a string, the position of the one that `more` others come before. It stands in the block of bit i.
+// Of the ones after the first i bits of a string, the position of the one that `more` others come
+// before. It is in the block of bit i.
 pub fn place_after(b: &[u8], first: usize, i: usize, more: usize) -> usize
     requires { ⌜ i < 65536 ⌝ }
-    requires { ⌜ first ≤ 53 ⌝ }
-    requires { ⌜ length (now b) ≤ 512 * 53 ⌝ }
+    requires { ⌜ first ≤ mostBlock ⌝ }
+    requires { ⌜ length (now b) ≤ 512 * mostBlock ⌝ }
     requires { ⌜ 512 * (first + i / 4000 + 1) ≤ length (now b) ⌝ }
     requires { ⌜ onesTo (now b) first i + more < onesTo (now b) first (4000 * (i / 4000 + 1)) ⌝ }
     ensures { λ r. ⌜ r ≡ position (stringIn (now (b .entry)) first 0 (4000 * (i / 4000 + 1))) (onesTo (now (b .entry)) first i + more + 1) ⌝ }
@@ -25,10 +27,11 @@ pub fn place_after(b: &[u8], first: usize, i: usize, more: usize) -> usize
     i - i % 8 + place_from(b, at, passed + more as u32 + 1)
 }
 
-// The block in which one number k of a string of n bits stands, in block j or after it: the last one before which there are fewer.
+// The block in which one number k of a string of n bits is, in block j or after it: the last
+// one before which there are fewer.
 pub fn block_of(b: &[u8], first: usize, n: usize, j: usize, k: usize) -> usize
     requires { ⌜ n ≤ 65536 ⌝ }
-    requires { ⌜ first ≤ 53 ⌝ }
+    requires { ⌜ first ≤ mostBlock ⌝ }
     requires { ⌜ 512 * (first + stringBlocks n) ≤ length (now b) ⌝ }
     requires { ⌜ CountsAndPadding (now b) first (stringIn (now b) first 0 n) ⌝ }
     requires { ⌜ j < stringBlocks n ⌝ }

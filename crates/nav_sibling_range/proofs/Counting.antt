@@ -13,6 +13,7 @@ use Rattle.theory.specs.Stages.{Ended}
 use Rattle.theory.proofs.InStep.{runs-ended, one-missing}
 use Rattle.theory.proofs.Navigate.{position-zero, place-of-one}
 use Rattle.bits_byte.proofs.Values.{is-I}
+use Rattle.nav_strings.proofs.Bits.{any-else}
 
 -- ---- by positions from 0
 
@@ -23,12 +24,6 @@ ones-next (O ∷ r) zero h = refl
 ones-next (I ∷ r) zero h = refl
 ones-next (O ∷ r) (suc i) h = ones-next r i (omega arith)
 ones-next (I ∷ r) (suc i) h = omega (arith, ones-next r i (omega arith))
-
--- at a position there is, what stands elsewhere is no matter
-pub any-else : (r : List Bit) (i : ℕ) → i < length r → getD r i I ≡ getD r i O
-any-else [] i h = absurd (omega arith)
-any-else (b ∷ r) zero h = refl
-any-else (b ∷ r) (suc i) h = any-else r i (omega arith)
 
 -- ---- by positions from 1
 
@@ -43,7 +38,7 @@ pub left-missing : (m : ℕ) (r : List Bit) (x : ℕ) → Ended m r → 1 ≤ x 
 unfolding onesLeft
 left-missing m r x e g h = one-missing r m (x - 1) (runs-ended m r (omega arith) .1 e) (omega arith)
 
--- a one with a greater number stands further right
+-- a one with a greater number is further right
 pub position-less : (r : List Bit) (k : ℕ) → k < ones r → position r k < position r (suc k)
 position-less [] k h = absurd (omega arith)
 position-less (O ∷ r) zero h = omega arith
@@ -77,7 +72,7 @@ pub left-of-one : (r : List Bit) (k : ℕ) → k < ones r → onesLeft r (positi
 unfolding onesLeft
 left-of-one r k h = before-position r k (position r (suc k) - 1) h (omega (arith, position-less r k h))
 
--- the last one left of a position, if there is one, stands left of it
+-- the last one left of a position, if there is one, is left of it
 last-left : (r : List Bit) (i : ℕ) → position r (ones (take i r)) ≤ i
 last-left [] i = omega arith
 last-left (b ∷ r) zero = omega arith
@@ -103,7 +98,7 @@ pub right-from : (r : List Bit) (x : ℕ) → onesLeft r x < ones r → x ≤ po
 unfolding onesLeft
 right-from r x h = omega (arith, next-right r (x - 1) h)
 
--- a one stands where the ones left of it say
+-- a one is where the ones left of it say
 pub position-of-one : (r : List Bit) (x : ℕ) → 1 ≤ x → x ≤ length r → value (bitOf r x) ≡ 1 → position r (suc (onesLeft r x)) ≡ x
 unfolding onesLeft
 position-of-one r x g h e =

@@ -1,4 +1,5 @@
--- What the strings of a sound image give: the answers that the tree itself gives, each from ones left of a position and positions of ones.
+-- What the strings of a sound image give: the answers that the tree itself gives, each from ones
+-- left of a position and positions of ones.
 use mathlib.Core.Path.{_≡_, sym, ap, ap₂, _∙_, subst}
 use mathlib.Core.Bool.{true}
 use mathlib.Core.List.{List}
@@ -7,15 +8,13 @@ use native.Mathlib.Omega.{arith}
 use lib.IntN.{ℤ}
 use lib.ListN.{length}
 use Rattle.meaning.specs.Strings.{Bit, lbs, R1, R0, stringOf}
-use Rattle.meaning.specs.Bytes.{bitAt, value}
 use Rattle.meaning.specs.Parents.{parents}
 use Rattle.meaning.specs.Image.{parentsIn, isImage, stringIn}
 use Rattle.meaning.specs.Questions.{Ask, answer}
 use Rattle.theory.specs.Rank.{onesLeft, position}
-use Rattle.theory.specs.Layout.{bitPlace}
-use Rattle.theory.specs.ByStrings.{bitOf, before, byStrings}
+use Rattle.theory.specs.ByStrings.{before, byStrings}
 use Rattle.theory.specs.Stages.{Ended, readR1, readR0, nodesOf, r0Block}
-use Rattle.theory.proofs.TreeImages.{is-image, parents-in, length-stringIn, stringIn-at}
+use Rattle.theory.proofs.TreeImages.{is-image, parents-in, length-stringIn}
 use Rattle.theory.proofs.InBlocks.{stringIn-cut}
 use Rattle.theory.proofs.Forms.{length-parents, string-parents}
 use Rattle.theory.proofs.Stages.{image-stages, parts-read}
@@ -25,8 +24,8 @@ use Rattle.image_found.specs.declared.Checked.the-variants.{Sound}
 use Rattle.image_found.specs.Checked.{checked}
 use Rattle.image_found.proofs.Finding.{sound-known}
 use Rattle.bits_select.proofs.Reaching.{place-le}
-use Rattle.nav_strings.proofs.Strings.{in-r1, in-r0}
-use Rattle.nav_sibling_range.proofs.Counting.{any-else, left-missing}
+use Rattle.nav_strings.specs.Nodes.{IsNode}
+use Rattle.nav_sibling_range.proofs.Counting.{left-missing}
 
 -- ---- the answers of an image's own tree
 
@@ -66,6 +65,16 @@ strings bytes i found =
       own = image-answers bytes (k .image);
     })
 
+-- what the strings give for a node is the answer
+pub given : {bytes : List ℕ} {i : Layout} {x : ℕ} → IsNode bytes i x → (ask : Ask) (z : ℤ) (y : ℕ) → y ≡ byStrings (readR1 bytes) (readR0 bytes) ask x z → y ≡ answer (parentsIn bytes) ask x z
+given {bytes} {i} {x} node ask z y e = e ∙ sym (strings bytes i (node .sound) .own ask x z (node .some) (node .most))
+
+-- there is one more one to select in R1
+pub more1 : {bytes : List ℕ} {i : Layout} {x : ℕ} → IsNode bytes i x → onesLeft (readR1 bytes) x < i .runs
+more1 {bytes} {i} {x} node =
+    let s = strings bytes i (node .sound) in
+    left-missing (i .runs) (readR1 bytes) x (s .ended1) (node .some) (omega (arith, node .most, s .length1))
+
 module _ (bytes : List ℕ) (i : Layout) (found : checked bytes ≡ Sound i) where
   abbrev r1 : List Bit
   r1 = readR1 bytes
@@ -73,10 +82,7 @@ module _ (bytes : List ℕ) (i : Layout) (found : checked bytes ≡ Sound i) whe
   abbrev r0 : List Bit
   r0 = readR0 bytes
 
-  -- there is one more one to select
-  pub more1 : (x : ℕ) → 1 ≤ x → x ≤ i .nodes → onesLeft r1 x < i .runs
-  more1 x g h = let s = strings bytes i found in left-missing (i .runs) r1 x (s .ended1) g (omega (arith, s .length1))
-
+  -- there is one more one to select in R0
   pub more0 : (x : ℕ) → 1 ≤ x → x ≤ i .nodes + 1 → onesLeft r0 x < i .runs
   more0 x g h = let s = strings bytes i found in left-missing (i .runs) r0 x (s .ended0) g (omega (arith, s .length0))
 
@@ -103,15 +109,3 @@ module _ (bytes : List ℕ) (i : Layout) (found : checked bytes ≡ Sound i) whe
   unfolding before
   small-before zero = omega arith
   small-before (suc z) = small1 (1 + onesLeft r0 (suc z))
-
-  -- a bit, read from its block
-  bit-read : (first n x y : ℕ) → 1 ≤ x → x ≤ n → y ≡ value (bitAt bytes (bitPlace first (x - 1))) → y ≡ value (bitOf (stringIn bytes first 0 n) x)
-  bit-read first n x y g h e =
-      e ∙ ap (λ p. value (bitAt bytes (bitPlace first p))) (let f : x - 1 ≡ 0 + (x - 1) = omega arith in f)
-      ∙ ap value (sym (any-else (stringIn bytes first 0 n) (x - 1) (omega (arith, length-stringIn bytes first 0 n)) ∙ stringIn-at bytes first 0 n (x - 1) (omega arith)))
-
-  pub bit1 : (x y : ℕ) → 1 ≤ x → x ≤ i .nodes → y ≡ value (bitAt bytes (bitPlace 1 (x - 1))) → y ≡ value (bitOf r1 x)
-  bit1 x y g h e = in-r1 bytes i found (λ r. value (bitOf r x)) y (bit-read 1 (i .nodes) x y g h e)
-
-  pub bit0 : (x y : ℕ) → 1 ≤ x → x ≤ i .nodes → y ≡ value (bitAt bytes (bitPlace (i .«r0_block») (x - 1))) → y ≡ value (bitOf r0 x)
-  bit0 x y g h e = in-r0 bytes i found (λ r. value (bitOf r x)) y (bit-read (i .«r0_block») (i .nodes + 1) x y g (omega arith) e)

@@ -1,10 +1,12 @@
-// Where a run of siblings begins and ends: the ones of R1 on either side of a node, in an image that the check found sound.
+// Where a run of siblings begins and ends: the ones of R1 on either side of a node.
+// that the check found sound.
 ghost use mathlib.Core.Path.{_≡_};
 ghost use Prim.Native.Nat.{_+_, _≤_};
 ghost use Rattle.theory.specs.Rank.{onesLeft, position};
 ghost use Rattle.theory.specs.Stages.{readR1};
 ghost use Rattle.image_found.specs.declared.Checked.the-variants.{Sound};
 ghost use Rattle.image_found.specs.Checked.{checked};
+ghost use Rattle.nav_strings.specs.Nodes.{IsNode};
 use bits_nearest::first_one;
 use bits_nearest::last_one;
 use image_layout::Layout;
@@ -23,21 +25,18 @@ fn run_end(b: &[u8], image: Layout, k: usize) -> usize
     select_r1(b, image, k)
 }
 
-// The last node before the siblings of node x, 0 if there is none, by counting.
+// The last node before the siblings of node x, 0 if there is none, by rank and select.
 fn far_before(b: &[u8], image: Layout, x: usize) -> usize
-    requires { ⌜ checked (now b) ≡ Sound image ⌝ }
-    requires { ⌜ 1 ≤ x ⌝ }
-    requires { ⌜ x ≤ image .nodes ⌝ }
+    requires { ⌜ IsNode (now b) image x ⌝ }
     ensures { λ r. ⌜ r ≡ position (readR1 (now (b .entry))) (onesLeft (readR1 (now (b .entry))) x) ⌝ }
 {
     run_end(b, image, rank_r1(b, image, x))
 }
 
-// The same: the last one of R1 left of x. Its own block has it nearly always.
+// The last node before the siblings of node x, 0 if there is none: the last one of R1 left of x,
+// which is nearly always in the block of x.
 pub fn run_before(b: &[u8], image: Layout, x: usize) -> usize
-    requires { ⌜ checked (now b) ≡ Sound image ⌝ }
-    requires { ⌜ 1 ≤ x ⌝ }
-    requires { ⌜ x ≤ image .nodes ⌝ }
+    requires { ⌜ IsNode (now b) image x ⌝ }
     ensures { λ r. ⌜ r ≡ position (readR1 (now (b .entry))) (onesLeft (readR1 (now (b .entry))) x) ⌝ }
 {
     let i = x - 1;
@@ -49,21 +48,18 @@ pub fn run_before(b: &[u8], image: Layout, x: usize) -> usize
     i - n + found
 }
 
-// The last of the siblings of node x, by counting.
+// The last of the siblings of node x, by rank and select.
 fn far_last(b: &[u8], image: Layout, x: usize) -> usize
-    requires { ⌜ checked (now b) ≡ Sound image ⌝ }
-    requires { ⌜ 1 ≤ x ⌝ }
-    requires { ⌜ x ≤ image .nodes ⌝ }
+    requires { ⌜ IsNode (now b) image x ⌝ }
     ensures { λ r. ⌜ r ≡ position (readR1 (now (b .entry))) (onesLeft (readR1 (now (b .entry))) x + 1) ⌝ }
 {
     select_r1(b, image, rank_r1(b, image, x) + 1)
 }
 
-// The same: the first one of R1 that is not left of x. There is one, since R1 ends with a one.
+// The last of the siblings of node x: the first one of R1 that is not left of x, which is nearly
+// always in the block of x. There is one, since R1 ends with a one.
 pub fn run_last(b: &[u8], image: Layout, x: usize) -> usize
-    requires { ⌜ checked (now b) ≡ Sound image ⌝ }
-    requires { ⌜ 1 ≤ x ⌝ }
-    requires { ⌜ x ≤ image .nodes ⌝ }
+    requires { ⌜ IsNode (now b) image x ⌝ }
     ensures { λ r. ⌜ r ≡ position (readR1 (now (b .entry))) (onesLeft (readR1 (now (b .entry))) x + 1) ⌝ }
 {
     let i = x - 1;

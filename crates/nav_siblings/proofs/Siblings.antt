@@ -1,30 +1,33 @@
 -- Siblings of a node: what is read from the strings is the answer.
 use mathlib.Core.Path.{_≡_, refl, sym, ap, ap₂, _∙_}
+use mathlib.Core.Bool.{cond}
 use mathlib.Core.List.{List}
 use Prim.Native.Nat.{ℕ, zero, suc, _+_, _-_, _≤_, _<_}
 use native.Mathlib.Omega.{arith}
+use borrow.Author.Tests.{lt-ltb, le-ltb}
 use lib.IntN.{ℤ, pos, negsuc}
 use Rattle.meaning.specs.Strings.{Bit, ones}
+use Rattle.meaning.specs.Bytes.{value}
 use Rattle.meaning.specs.Image.{parentsIn}
-use Rattle.meaning.specs.Questions.{Ask, rank, sibling, answer}
+use Rattle.meaning.specs.Questions.{Ask, nextSibling, previousSibling, rank, sibling, answer}
 use Rattle.theory.specs.Rank.{onesLeft, position}
-use Rattle.theory.specs.ByStrings.{within, before, parentOf, siblingBy, byStrings}
+use Rattle.theory.specs.ByStrings.{whereZero, bitOf, within, before, parentOf, siblingBy, byStrings}
 use Rattle.theory.specs.Stages.{readR1, readR0}
 use Rattle.theory.proofs.Navigate.{position-zero}
 use Rattle.theory.proofs.ByStrings.{within-there, within-low, within-high}
 use Rattle.image_layout.specs.declared.Layout.{Layout}
-use Rattle.image_found.specs.declared.Checked.the-variants.{Sound}
-use Rattle.image_found.specs.Checked.{checked}
 use Rattle.ask_argument.specs.Values.{moved}
+use Rattle.bits_byte.proofs.Values.{is-O, is-I}
+use Rattle.nav_strings.specs.Nodes.{IsNode}
 use Rattle.nav_sibling_range.proofs.Counting.{left-of-one, left-after-one, left-before, right-from, position-less}
-use Rattle.nav_sibling_range.proofs.Own.{strings, more1}
-use Rattle.by_bit.proofs.Bits as Bits
+use Rattle.nav_sibling_range.proofs.Own.{strings, given, more1}
 use Rattle.nav_children.proofs.Families.{before-at}
 
 -- ---- any two strings
 
 module _ (r1 r0 : List Bit) where
-  -- siblings stand between two ones of R1 that follow each other: before x's parent's zero, and before the next zero
+  -- siblings are between two ones of R1 that follow each other: before x's parent's zero, and
+  -- before the next zero
   module _ (x : ℕ) (there : onesLeft r1 x ≤ ones r0) where
     siblings-low : before r1 r0 (parentOf r1 r0 x) ≡ position r1 (onesLeft r1 x)
     unfolding before parentOf
@@ -50,7 +53,7 @@ module _ (r1 r0 : List Bit) where
 
 -- ---- the strings of a sound image, and a node
 
-module _ (bytes : List ℕ) (i : Layout) (found : checked bytes ≡ Sound i) (x : ℕ) (g : 1 ≤ x) (h : x ≤ i .nodes) where
+module _ {bytes : List ℕ} {i : Layout} {x : ℕ} (node : IsNode bytes i x) where
   abbrev r1 : List Bit
   r1 = readR1 bytes
 
@@ -60,12 +63,37 @@ module _ (bytes : List ℕ) (i : Layout) (found : checked bytes ≡ Sound i) (x 
   abbrev Answers : Ask → ℤ → ℕ → Type 0
   Answers ask z y = y ≡ answer (parentsIn bytes) ask x z
 
-  given : (ask : Ask) (z : ℤ) (y : ℕ) → y ≡ byStrings r1 r0 ask x z → Answers ask z y
-  given = Bits.given bytes i found x g h
+  -- ---- the next one and the one before
+
+  module _ (bit : ℕ) (read : bit ≡ value (bitOf r1 x)) where
+    pub next-none : (bit ≡ 0 → ⊥) → Answers nextSibling (pos 0) 0
+    unfolding byStrings
+    next-none n = given node nextSibling (pos 0) 0 (ap (λ v. whereZero v (x + 1) 0) (sym (is-I (bitOf r1 x) bit read n)))
+
+    pub next-some : bit ≡ 0 → Answers nextSibling (pos 0) (x + 1)
+    unfolding byStrings
+    next-some e = given node nextSibling (pos 0) (x + 1) (ap (λ v. whereZero v (x + 1) 0) (sym (is-O (bitOf r1 x) bit read e)))
+
+  pub previous-first : x ≡ 1 → Answers previousSibling (pos 0) 0
+  unfolding byStrings
+  previous-first e = given node previousSibling (pos 0) 0 (sym (ap (λ b. cond b (whereZero (bitOf r1 (x - 1)) (x - 1) 0) 0) (le-ltb 1 x (omega arith))))
+
+  module _ (later : 1 < x) (bit : ℕ) (read : bit ≡ value (bitOf r1 (x - 1))) where
+    previous-given : (y : ℕ) → y ≡ whereZero (bitOf r1 (x - 1)) (x - 1) 0 → Answers previousSibling (pos 0) y
+    unfolding byStrings
+    previous-given y e = given node previousSibling (pos 0) y (e ∙ sym (ap (λ b. cond b (whereZero (bitOf r1 (x - 1)) (x - 1) 0) 0) (lt-ltb 1 x later)))
+
+    pub previous-none : (bit ≡ 0 → ⊥) → Answers previousSibling (pos 0) 0
+    previous-none n = previous-given 0 (ap (λ v. whereZero v (x - 1) 0) (sym (is-I (bitOf r1 (x - 1)) bit read n)))
+
+    pub previous-some : bit ≡ 0 → Answers previousSibling (pos 0) (x - 1)
+    previous-some e = previous-given (x - 1) (ap (λ v. whereZero v (x - 1) 0) (sym (is-O (bitOf r1 (x - 1)) bit read e)))
+
+  -- ---- all of them
 
   siblings-there : onesLeft r1 x ≤ ones r0
   siblings-there =
-      omega (arith, strings bytes i found .ended0 .count, more1 bytes i found x g h)
+      omega (arith, strings bytes i (node .sound) .ended0 .count, more1 node)
 
   -- the last node before the siblings of x, and the last of them
   abbrev start : ℕ
@@ -79,17 +107,17 @@ module _ (bytes : List ℕ) (i : Layout) (found : checked bytes ≡ Sound i) (x 
 
   module _ (low : ℕ) (from : low ≡ start) where
     pub rank-above : low < x
-    rank-above = omega (arith, left-before r1 x g)
+    rank-above = omega (arith, left-before r1 x (node .some))
 
     pub rank-given : Answers rank (pos 0) (x - low)
     unfolding byStrings
-    rank-given = given rank (pos 0) (x - low) (ap (λ n. x - n) (from ∙ start-is))
+    rank-given = given node rank (pos 0) (x - low) (ap (λ n. x - n) (from ∙ start-is))
 
   module _ (y : ℕ) (z : ℤ) (place : y ≡ moved x z) where
     sibling-given : (v : ℕ) → v ≡ within start end y → Answers sibling z v
     unfolding byStrings
     sibling-given v e =
-        given sibling z v (
+        given node sibling z v (
         e ∙ ap (within start end) place
         ∙ ap₂ (λ a b. within a b (moved x z)) start-is (sym (siblings-high r1 r0 x siblings-there))
         ∙ sym (sibling-within r1 r0 x siblings-there z)
@@ -100,7 +128,7 @@ module _ (bytes : List ℕ) (i : Layout) (found : checked bytes ≡ Sound i) (x 
     upto =
         omega (
           arith,
-          right-from r1 x (omega (arith, strings bytes i found .ended1 .count, more1 bytes i found x g h)),
+          right-from r1 x (omega (arith, strings bytes i (node .sound) .ended1 .count, more1 node)),
           ap (position r1) (let e : suc (onesLeft r1 x) ≡ onesLeft r1 x + 1 = omega arith in e),
         )
 
@@ -116,4 +144,4 @@ module _ (bytes : List ℕ) (i : Layout) (found : checked bytes ≡ Sound i) (x 
       right-none e = sibling-given 0 (sym (within-high start end y (omega arith)))
 
       pub right-some : x ≤ y → y ≤ high → Answers sibling z y
-      right-some e f = sibling-given y (sym (within-there start end y (omega (arith, left-before r1 x g)) (omega arith)))
+      right-some e f = sibling-given y (sym (within-there start end y (omega (arith, left-before r1 x (node .some))) (omega arith)))

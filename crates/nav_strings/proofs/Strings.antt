@@ -7,6 +7,7 @@ use native.Mathlib.Omega.{arith}
 use lib.ListN.{length}
 use Rattle.meaning.specs.Strings.{Bit, ones}
 use Rattle.meaning.specs.Image.{isImage, stringBlocks, stringIn}
+use Rattle.theory.specs.Bounds.{mostBlock}
 use Rattle.theory.specs.Stages.{CountsAndPadding, Sampled, blocksOfSamples, readR1, readR0}
 use Rattle.theory.proofs.TreeImages.{is-image, image-size, image-most}
 use Rattle.theory.proofs.Stages.{image-stages}
@@ -18,9 +19,9 @@ use Rattle.image_found.proofs.Finding.{sound-known}
 -- a string of n bits, m of them ones, from block `first` on, its samples from block `from` on
 pub record SoundString (bytes : List ℕ) (first n from m : ℕ) : Type 0 where
   pub most : n ≤ 65536
-  pub size : length bytes ≤ 512 * 53
-  pub near : first ≤ 53
-  pub nearer : from ≤ 53
+  pub size : length bytes ≤ 512 * mostBlock
+  pub near : first ≤ mostBlock
+  pub nearer : from ≤ mostBlock
   pub room : 512 * (first + stringBlocks n) ≤ length bytes
   pub roomier : 512 * (from + blocksOfSamples m) ≤ length bytes
   pub count : m ≡ ones (stringIn bytes first 0 n)
@@ -51,7 +52,7 @@ module _ (bytes : List ℕ) (i : Layout) (found : checked bytes ≡ Sound i) whe
       let h = s .header in
       subst (λ j. SoundString bytes 1 (j .nodes) (j .«r1_samples») (j .runs)) (sym (k .read)) (record {
         most = omega (arith, h .most);
-        size = l .1;
+        size = omega (arith, l .1);
         near = omega arith;
         nearer = omega (arith, h .needed);
         room = omega (arith, h .needed);
@@ -69,7 +70,7 @@ module _ (bytes : List ℕ) (i : Layout) (found : checked bytes ≡ Sound i) whe
       let h = s .header in
       subst (λ j. SoundString bytes (j .«r0_block») (j .nodes + 1) (j .«r0_samples») (j .runs)) (sym (k .read)) (record {
         most = omega (arith, h .most);
-        size = l .1;
+        size = omega (arith, l .1);
         near = omega (arith, h .needed);
         nearer = omega (arith, h .needed);
         room = omega (arith, h .needed);

@@ -1,25 +1,43 @@
-// Rank and select in the two strings of a checked image.
+// The bits of R1 and R0 of a checked image, and rank and select in them.
 ghost use mathlib.Core.Path.{_≡_};
 ghost use Prim.Native.Nat.{_+_, _≤_};
+ghost use Rattle.meaning.specs.Bytes.{value};
 ghost use Rattle.theory.specs.Rank.{onesLeft, position};
 ghost use Rattle.theory.specs.Stages.{readR1, readR0};
+ghost use Rattle.theory.specs.ByStrings.{bitOf};
 ghost use Rattle.image_found.specs.declared.Checked.the-variants.{Sound};
 ghost use Rattle.image_found.specs.Checked.{checked};
+ghost use Rattle.nav_strings.specs.Nodes.{IsNode};
 use image_layout::Layout;
+use image_string::string_bit;
 use nav_rank::rank;
 use nav_select::select;
 
-// Rank in R1 of an image that the check found sound.
+// Bit x, from 1, of R1.
+pub fn bit_r1(b: &[u8], image: Layout, x: usize) -> u8
+    requires { ⌜ IsNode (now b) image x ⌝ }
+    ensures { λ r. ⌜ r ≡ value (bitOf (readR1 (now (b .entry))) x) ⌝ }
+{
+    string_bit(b, 1, x - 1)
+}
+
+// Bit x, from 1, of R0.
+pub fn bit_r0(b: &[u8], image: Layout, x: usize) -> u8
+    requires { ⌜ IsNode (now b) image x ⌝ }
+    ensures { λ r. ⌜ r ≡ value (bitOf (readR0 (now (b .entry))) x) ⌝ }
+{
+    string_bit(b, image.r0_block as usize, x - 1)
+}
+
+// The ones of R1 left of bit x.
 pub fn rank_r1(b: &[u8], image: Layout, x: usize) -> usize
-    requires { ⌜ checked (now b) ≡ Sound image ⌝ }
-    requires { ⌜ 1 ≤ x ⌝ }
-    requires { ⌜ x ≤ image .nodes ⌝ }
+    requires { ⌜ IsNode (now b) image x ⌝ }
     ensures { λ r. ⌜ r ≡ onesLeft (readR1 (now (b .entry))) x ⌝ }
 {
     rank(b, 1, image.nodes as usize, image.runs as usize, x)
 }
 
-// Rank in R0, which has one bit more.
+// The ones of R0 left of bit x. R0 has one bit more than there are nodes.
 pub fn rank_r0(b: &[u8], image: Layout, x: usize) -> usize
     requires { ⌜ checked (now b) ≡ Sound image ⌝ }
     requires { ⌜ 1 ≤ x ⌝ }
@@ -30,7 +48,7 @@ pub fn rank_r0(b: &[u8], image: Layout, x: usize) -> usize
     rank(b, image.r0_block as usize, n, image.runs as usize, x)
 }
 
-// Select in R1.
+// The position in R1 of its k-th one.
 pub fn select_r1(b: &[u8], image: Layout, k: usize) -> usize
     requires { ⌜ checked (now b) ≡ Sound image ⌝ }
     requires { ⌜ 1 ≤ k ⌝ }
@@ -47,7 +65,7 @@ pub fn select_r1(b: &[u8], image: Layout, k: usize) -> usize
     )
 }
 
-// Select in R0.
+// The position in R0 of its k-th one.
 pub fn select_r0(b: &[u8], image: Layout, k: usize) -> usize
     requires { ⌜ checked (now b) ≡ Sound image ⌝ }
     requires { ⌜ 1 ≤ k ⌝ }

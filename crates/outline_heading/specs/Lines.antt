@@ -1,4 +1,5 @@
--- The lines that the outline program prints (document 01, "The outline program"). Every line ends with one line feed.
+-- The lines that the outline program prints (document 01, "The outline program"). Every line ends
+-- with one line feed.
 use mathlib.Core.List.{List, [], _∷_, _++_}
 use Prim.Native.Nat.{ℕ, _≤_, _<_}
 use lib.IntN.{pos}
@@ -14,7 +15,8 @@ heading n m blocks = ascii "n " ++ decimal n ++ ascii " m " ++ decimal m ++ asci
 unfoldable pub nodeLine : ℕ → ℕ → ℕ → List ℕ
 nodeLine x depth d = decimal x ++ ascii " " ++ decimal depth ++ ascii " " ++ decimal d ++ ascii "\n"
 
--- one line for each node of a listing, in its order, by the parent list of the tree: a listing has two numbers to a node
+-- one line for each node of a listing, in its order, by the parent list of the tree: a listing has
+-- two numbers to a node
 unfoldable pub nodeLines : List ℕ → List ℕ → List ℕ
 nodeLines ps [] = []
 nodeLines ps (x ∷ []) = []

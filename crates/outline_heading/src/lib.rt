@@ -1,4 +1,5 @@
-// The heading of an outline, or a refusal, written into a lent buffer. Each function answers the place after what it wrote.
+// The heading of an outline, or a refusal, written into a lent buffer. Each function answers the
+// place after what it wrote.
 ghost use Prim.Native.Nat.{_≤_};
 ghost use lib.ListN.{length};
 ghost use Rattle.outline_text.specs.Text.{Puts};

@@ -1,4 +1,5 @@
--- The lines of the nodes of a listing, pair by pair: those that are put, and those that are still to come.
+-- The lines of the nodes of a listing, pair by pair: those that are put, and those that are still
+-- to come.
 use mathlib.Core.Path.{_≡_, refl, sym, ap, _∙_, subst}
 use mathlib.Core.List.{List, [], _∷_, _++_, append-assoc, append-nil}
 use Prim.Native.Nat.{ℕ, suc, _+_, _≤_, _<_}

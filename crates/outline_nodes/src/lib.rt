@@ -1,4 +1,5 @@
-// The lines of the nodes of an outline, written into a lent buffer. Each function answers the place after what it wrote.
+// The lines of the nodes of an outline, written into a lent buffer. Each function answers the place
+// after what it wrote.
 ghost use mathlib.Core.Path.{_≡_};
 ghost use Prim.Native.Nat.{_+_, _≤_};
 ghost use lib.ListN.{length};

@@ -1,17 +1,16 @@
--- What is printed for an image, from what the check found and what the listing of the root came to.
+-- What is printed for an image, from what the check found and what the listing of the root gave.
 use mathlib.Core.Path.{_≡_, refl, sym, ap, ap₂, _∙_, subst}
-use mathlib.Core.Bool.{Bool, true, false, cond}
+use mathlib.Core.Bool.{false}
 use mathlib.Core.List.{List, _++_}
 use Prim.Native.Nat.{ℕ, zero, suc, _*_, _/_, _≤_, _<_}
 use native.Mathlib.Omega.{arith}
 use borrow.Author.Tests.{lt-ltb, le-ltb, eq-eqb, ne-eqb}
-use lib.Dec.{ltb}
 use lib.ListN.{length, take, drop, replicate, length-replicate}
 use lib.Seq.{take-at}
 use Rattle.meaning.specs.declared.Answer.{Answer}
 use Rattle.meaning.specs.Answers.{refusedWith, counts, cameTo, firstHolding, written}
-use Rattle.meaning.specs.Blocks.{blocksIn, wrongBlock}
-use Rattle.meaning.specs.Image.{isImage, parentsIn}
+use Rattle.meaning.specs.Blocks.{blocksIn}
+use Rattle.meaning.specs.Image.{parentsIn}
 use Rattle.meaning.specs.Listing.{listing, deep}
 use Rattle.meaning.specs.declared.Refusal.{Refusal}
 use Rattle.meaning.specs.declared.Verdict.{Verdict}
@@ -105,7 +104,7 @@ module _ (bytes : List ℕ) where
     pub outline-many : 4000 < i .nodes → outlineOf bytes ≡ first
     outline-many h = by-answer counted (by-check (Sound i) e) ∙ many bytes counted _ _ refl h ∙ top-is
 
-    -- ---- and what the listing came to
+    -- ---- and what the listing gave
 
     abbrev pairs : List ℕ
     pairs = listing 65 (parentsIn bytes) 1 0

@@ -1,4 +1,5 @@
--- The listing of an image's root, if no node is at depth 64, has two numbers for each node of the tree.
+-- The listing of an image's root, if no node is at depth 64, has two numbers for each node of the
+-- tree.
 use mathlib.Core.Path.{_≡_, refl, sym, ap, ap₂, _∙_, subst}
 use mathlib.Core.List.{List, [], _∷_}
 use Prim.Native.Nat.{ℕ, suc, _+_, _*_, _≤_}

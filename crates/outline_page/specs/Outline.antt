@@ -1,4 +1,5 @@
--- What the outline program prints for the bytes that it reads (document 01, "The outline program"), in lines of outline_heading/specs/Lines.antt.
+-- What the outline program prints for the bytes that it reads (document 01, "The outline program"),
+-- in lines of outline_heading/specs/Lines.antt.
 use mathlib.Core.Bool.{cond}
 use mathlib.Core.List.{List, _++_}
 use Prim.Native.Nat.{ℕ, _*_}
@@ -10,7 +11,8 @@ use Rattle.meaning.specs.Image.{parentsIn}
 use Rattle.calls.specs.Calls.{checkImage, listImage}
 use Rattle.outline_heading.specs.Lines.{heading, nodeLines, refusal}
 
--- after the check and the listing of the root: the heading alone if n is over 4,000, the heading and the nodes, or the refusal alone
+-- after the check and the listing of the root: the heading alone if n is over 4,000, the heading
+-- and the nodes, or the refusal alone
 unfoldable pub printed : List ℕ → Answer → Answer → List ℕ → List ℕ
 printed bytes found listed pairs =
     let top = heading (found .first) (found .second) (blocksIn bytes) in

@@ -1,4 +1,5 @@
--- What the outline of a tree's image, and of other bytes, is. Each name is a statement; proofs/Promises.antt has a proof of each.
+-- What the outline of a tree's image, and of other bytes, is. Each name is a statement;
+-- proofs/Promises.antt has a proof of each.
 use mathlib.Core.Path.{_≡_}
 use mathlib.Core.List.{List, [], _∷_, _++_}
 use Prim.Native.Nat.{ℕ, _+_, _≤_, _<_}
@@ -21,13 +22,15 @@ use Rattle.outline_page.specs.Outline.{outlineOf}
 abbrev pub headingOf : Tree → List ℕ
 headingOf t = heading (nodes t) (withChildren t + 1) (blocksIn (image t))
 
--- the text has a line for each of these nodes, in order: its number, its depth and the degree of the node of that number
+-- the text has a line for each of these nodes, in order: its number, its depth and the degree of
+-- the node of that number
 abbrev pub LinesOf : Tree → List Node → List ℕ → Type 0
 LinesOf t [] text = text ≡ []
 LinesOf t (v ∷ vs) text =
     (x : ℕ) × (rest : List ℕ) × Number t (v .address) x × (text ≡ nodeLine x (depth v) (degreeOf (nodeAt t x)) ++ rest) × LinesOf t vs rest
 
--- of at most 4,000 nodes, none of them at depth 64: the heading, and a line for each node in depth-first order
+-- of at most 4,000 nodes, none of them at depth 64: the heading, and a line for each node in
+-- depth-first order
 abbrev pub EachNodeHasItsLine : Type 0
 EachNodeHasItsLine = (t : Tree) → nodes t ≤ 4000 → AllBelow 64 (everything (root t))
     → (text : List ℕ) × (outlineOf (image t) ≡ headingOf t ++ text) × LinesOf t (everything (root t)) text

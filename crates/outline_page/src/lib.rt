@@ -15,7 +15,8 @@ use outline_nodes::put_nodes;
 // The most nodes of which each has its line.
 const MOST_LISTED: u32 = 4000;
 
-// What the program prints for the bytes that it read, written into `text`; the listing goes into `pairs` on the way. Answers how many bytes that is.
+// What the program prints for the bytes that it read, written into `text`; the listing goes into
+// `pairs` on the way. Answers how many bytes that is.
 pub fn outline(b: &[u8], pairs: &mut [u32], text: &mut [u8]) -> usize
     requires { ⌜ 8000 ≤ length (now pairs) ⌝ }
     requires { ⌜ 65536 ≤ length (now text) ⌝ }

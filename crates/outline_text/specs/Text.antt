@@ -26,7 +26,8 @@ digits (suc f) n = cond (ltb n 10) (unit n) (digits f (n / 10) ++ unit n)
 unfoldable pub decimal : ℕ → List ℕ
 decimal n = digits (n + 1) n
 
--- a buffer that held `before` holds the bytes from place `at` on, up to `next`, and else what it held
+-- a buffer that held `before` holds the bytes from place `at` on, up to `next`, and else what it
+-- held
 pub record Puts (bytes : List ℕ) (at next : ℕ) (before after : List ℕ) : Type 0 where
   pub text : after ≡ sets before at bytes
   pub place : next ≡ at + length bytes

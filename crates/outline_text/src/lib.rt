@@ -1,4 +1,5 @@
-// Text written into a lent buffer, from a place on. Each function answers the place after what it wrote.
+// Text written into a lent buffer, from a place on. Each function answers the place after what it
+// wrote.
 ghost use mathlib.Core.List.{_++_};
 ghost use Prim.Native.Nat.{_+_, _≤_};
 ghost use lib.ListN.{length};

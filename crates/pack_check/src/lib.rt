@@ -21,7 +21,8 @@ use string_skip::table_of_falls;
 use table_answers::row;
 use table_answers::upper;
 
-// Scans a pack with one copy of the table of falls for all its trees, and notes the first bit and the
+// Scans a pack with one copy of the table of falls for all its trees, and notes the first bit and
+// the
 // node count of each tree for which the lists have an entry.
 pub fn scan_pack(b: &[u8], n: usize, firsts: &mut [u32], counts: &mut [u32]) -> Pack
     requires { ⌜ n ≤ 8 * length (now b) ⌝ }
@@ -54,7 +55,8 @@ fn trees_in(pack: Pack) -> u32
     }
 }
 
-// What is wrong with the first n bits as a pack of so many trees: a leftover bit, a bit that begins no
+// What is wrong with the first n bits as a pack of so many trees: a leftover bit, a bit that begins
+// no
 // strings, or another number of trees. If nothing is, the first bit and the node count of each tree
 // for which the lists have an entry are noted.
 pub fn check_and_note(

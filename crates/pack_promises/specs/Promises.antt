@@ -41,13 +41,15 @@ abbrev pub SplitGivesTrees : Type 0
 SplitGivesTrees = (ts : List Tree) (firsts sizes : List ℕ) → FitPack ts → length ts ≤ length firsts → length ts ≤ length sizes
     → splitPack (packed (strings ts)) (length (strings ts)) (length ts) firsts sizes ≡ splitInto ts firsts sizes
 
--- bits are accepted with k exactly if they are the strings of k trees end to end, and there is room for k starts and k sizes
+-- bits are accepted with k exactly if they are the strings of k trees end to end, and there is room
+-- for k starts and k sizes
 abbrev pub PackAcceptedExactly : Type 0
 PackAcceptedExactly = (bytes : List ℕ) (L k : ℕ) (firsts sizes : List ℕ) → AreBytes bytes
     → (splitPack bytes L k firsts sizes .answer .code ≡ 0)
     ↔ ((ts : List Tree) × FitPack ts × (packed (strings ts) ≡ bytes) × (L ≡ length (strings ts)) × (k ≡ length ts) × (k ≤ length firsts) × (k ≤ length sizes))
 
--- each part, the 2 × size + 1 bits from its start, moved to bit 1 of a buffer, gives its tree's parent list
+-- each part, the 2 × size + 1 bits from its start, moved to bit 1 of a buffer, gives its tree's
+-- parent list
 abbrev pub PartsGiveTrees : Type 0
 PartsGiveTrees = (ts : List Tree) (j : ℕ) (other : Tree) (out : List ℕ) → Small ts → j < length ts
     → let start = getD (startsOf ts 0) j 0 in
@@ -75,7 +77,8 @@ pub record RoomToJoin (pack : List ℕ) (ts : List Tree) (t : Tree) : Type 0 whe
   pub short : longer ts t ≤ 131071
   pub room : bytesFor (longer ts t) ≤ length pack
 
--- joining is done exactly if the buffer holds a pack of k trees, the list is a tree's, and limits and room allow
+-- joining is done exactly if the buffer holds a pack of k trees, the list is a tree's, and limits
+-- and room allow
 abbrev pub JoinedExactly : Type 0
 JoinedExactly = (pack : List ℕ) (L k : ℕ) (ps : List ℕ)
     → (joinPack pack L k ps .answer .code ≡ 0)
@@ -97,7 +100,8 @@ unfoldable pub joinAll : List ℕ → List Tree → List Tree → List ℕ
 joinAll pack ts [] = pack
 joinAll pack ts (u ∷ us) = joinAll (joinPack pack (length (strings ts)) (length ts) (parents u) .lent) (ts ++ u ∷ []) us
 
--- trees joined one by one, to a pack of none in any buffer with room, are their strings end to end, and split into these trees
+-- trees joined one by one, to a pack of none in any buffer with room, are their strings end to end,
+-- and split into these trees
 abbrev pub JoinThenSplit : Type 0
 JoinThenSplit = (ts : List Tree) (pack firsts sizes : List ℕ) → FitPack ts → AreBytes pack → bytesFor (length (strings ts)) ≤ length pack
     → length ts ≤ length firsts → length ts ≤ length sizes
@@ -142,7 +146,8 @@ HeldByScan = (bytes : List ℕ) (L k : ℕ) (pack : Pack) → leftover bytes L �
 
 -- ---- Damage.
 
--- two accepted packs with one length in bits and one number of trees never differ in an odd number of bits
+-- two accepted packs with one length in bits and one number of trees never differ in an odd number
+-- of bits
 abbrev pub OddNeverSplit : Type 0
 OddNeverSplit = (a b : List ℕ) (L k : ℕ) (firsts sizes firsts′ sizes′ : List ℕ)
     → splitPack a L k firsts sizes .answer .code ≡ 0 → splitPack b L k firsts′ sizes′ .answer .code ≡ 0
@@ -154,7 +159,8 @@ OddNeverJoined = (a b : List ℕ) (L k : ℕ) (firsts sizes ps : List ℕ)
     → splitPack a L k firsts sizes .answer .code ≡ 0 → joinPack b L k ps .answer .code ≡ 0
     → (m : ℕ) → changed (bitsFrom a 0 L) (bitsFrom b 0 L) ≡ 2 * m + 1 → ⊥
 
--- however many bits of an accepted pack are changed, code 4 names none before the first changed bit: where the first j are the same, one after them
+-- however many bits of an accepted pack are changed, code 4 names none before the first changed
+-- bit: where the first j are the same, one after them
 abbrev pub NeverNamedBefore : Type 0
 NeverNamedBefore = (a b : List ℕ) (L k k′ : ℕ) (firsts sizes firsts′ sizes′ : List ℕ) (j : ℕ)
     → splitPack a L k firsts sizes .answer .code ≡ 0 → splitPack b L k′ firsts′ sizes′ .answer .code ≡ 4

@@ -1,4 +1,4 @@
--- What the scan of a pack tells of its place and its sizes, and what an answer comes to.
+-- What the scan of a pack tells of its place and its sizes.
 use mathlib.Core.Path.{_≡_, refl, sym, ap, _∙_}
 use mathlib.Core.Bool.{Bool, true, false, cond}
 use mathlib.Core.List.{List}
@@ -10,8 +10,6 @@ use lib.ListN.{length}
 use Rattle.meaning.specs.Strings.{Bit}
 use Rattle.meaning.specs.Scan.{many, place}
 use Rattle.meaning.specs.Packs.{sizes}
-use Rattle.meaning.specs.declared.Answer.{Answer}
-use Rattle.meaning.specs.Answers.{Outcome, cameTo}
 use Rattle.pack_scan.specs.Found.{trees, refused, found}
 
 clash : {X : Type 0} {j x : ℕ} → trees j ≡ refused x → X

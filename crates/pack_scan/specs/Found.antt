@@ -1,4 +1,5 @@
--- What bits hold as a pack: so many trees, or the bit at which they are refused (document 01, codes 4 and 10).
+-- What bits hold as a pack: so many trees, or the bit at which they are refused (document 01, codes
+-- 4 and 10).
 use mathlib.Core.Bool.{cond}
 use mathlib.Core.List.{List}
 use Prim.Native.Nat.{ℕ}

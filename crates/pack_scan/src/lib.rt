@@ -1,4 +1,4 @@
-// The scan of a pack, tree after tree.
+// The trees of a pack scanned one after another, their first bits and node counts noted.
 ghost use mathlib.Core.Path.{_≡_};
 ghost use Prim.Native.Nat.{_≤_, _*_};
 ghost use lib.ListN.{length, set, take};
@@ -39,7 +39,8 @@ pub enum Pack {
     Refused(u32),
 }
 
-// Scans a pack by the table of falls, and notes the first bit and the node count of each tree for which the lists have an entry.
+// Scans a pack by the table of falls, and notes the first bit and the node count of each tree for
+// which the lists have an entry.
 pub fn scan_trees(
     b: &[u8],
     n: usize,

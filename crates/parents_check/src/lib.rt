@@ -1,4 +1,5 @@
-// The entries of a parent list, and their check.
+// The check of a parent list: the lowest offending entry, and what a list that is written is
+// refused for.
 ghost use mathlib.Core.Path.{_≡_};
 ghost use Prim.Native.Nat.{_≤_};
 ghost use lib.ListN.{length};

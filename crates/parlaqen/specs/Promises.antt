@@ -1,6 +1,9 @@
--- What the store promises, in the order of the customer's demands. Each name is a statement about the nine calls as functions of what is lent
--- (meaning/specs/Calls.antt); the contract of each exported call is an equation with its function, so what is said here is said of the code.
--- `Promises`, at the end, is all of them, with those of the theory, of strings, packs and images, and of the outline; proofs/Promises.antt keeps it.
+-- What the store promises, in the order of the customer's demands. Each name is a statement about
+-- the nine calls as functions of what is lent
+-- (meaning/specs/Calls.antt); the contract of each exported call is an equation with its function,
+-- so what is said here is said of the code.
+-- `Promises`, at the end, is all of them, with those of the theory, of strings, packs and images,
+-- and of the outline; proofs/Promises.antt keeps it.
 use mathlib.Core.Path.{_≡_}
 use mathlib.Core.List.{List, [], _∷_}
 use mathlib.Core.Logic.{_⊎_}
@@ -23,7 +26,8 @@ use Rattle.pack_promises.specs.Promises as Packs
 use Rattle.image_promises.specs.Promises as Images
 use Rattle.outline_page.specs.Promises as Outline
 
--- ---- Demand 1. A `Call` is one of the nine with its inputs, whatever they are; `does` is what it comes to.
+-- ---- Demand 1. A `Call` is one of the nine with its inputs, whatever they are; `does` is what it
+-- comes to.
 
 -- the refusals that document 01's table has for a call: each code with its place
 abbrev pub listed : Call → List (ℕ × ℕ)
@@ -53,7 +57,8 @@ abbrev pub OneOf : ℕ → ℕ → List (ℕ × ℕ) → Type 0
 OneOf code place [] = ⊥
 OneOf code place (r ∷ rs) = ((code ≡ r .0) × (place ≡ r .1)) ⊎ OneOf code place rs
 
--- every call is done, with code 0 and place 0, or refuses by a listed code with its place, counts 0, and every lent list as it was
+-- every call is done, with code 0 and place 0, or refuses by a listed code with its place, counts
+-- 0, and every lent list as it was
 abbrev pub DoneOrRefused : Type 0
 DoneOrRefused = (c : Call) → let r = does c in
     ((r .answer .code ≡ 0) × (r .answer .place ≡ 0))
@@ -66,7 +71,8 @@ OneOutcome = (A : Type 0) (o : Outcome A) (a b : Answer) (x y : A) → cameTo a 
 -- ---- All of them.
 
 pub record Promises : Type 1 where
-  -- Demand 1. Every public call takes whatever it is handed, ends, and refuses by a listed number with a place; a refused call changes no byte
+  -- Demand 1. Every public call takes whatever it is handed, ends, and refuses by a listed number
+  -- with a place; a refused call changes no byte
   pub done-or-refused : DoneOrRefused
   -- where several rows of the table hold, the upper one wins
   pub upper-row-wins : Theory.UpperRowWins
@@ -98,18 +104,21 @@ pub record Promises : Type 1 where
   pub string-accepted : Strings.StringAcceptedExactly
   -- code 4 names the first p whose first p bits begin no string; L + 1 if there is no such p
   pub refused-there : Theory.RefusedThere
-  -- R1 has n bits, R0 n + 1; both have m ones, where m is one more than the number of nodes with children
+  -- R1 has n bits, R0 n + 1; both have m ones, where m is one more than the number of nodes with
+  -- children
   pub part-counts : Theory.PartCounts
   -- and they give the tree back
   pub parts-back : Theory.PartsBack
-  -- what the strings give: the parent, the ones before the z-th zero, children, leaves, the next sibling, and so all ten kinds
+  -- what the strings give: the parent, the ones before the z-th zero, children, leaves, the next
+  -- sibling, and so all ten kinds
   pub parent-by-strings : Theory.ParentByStrings
   pub ones-by-strings : Theory.OnesByStrings
   pub children-by-strings : Theory.ChildrenByStrings
   pub leaf-by-strings : Theory.LeafByStrings
   pub next-by-strings : Theory.NextByStrings
   pub answers-by-strings : Theory.AnswersByStrings
-  -- an image is 5 to 53 whole blocks that all check, laid out as document 01 has it; sample j is the position of one number 64 j + 1
+  -- an image is 5 to 53 whole blocks that all check, laid out as document 01 has it; sample j is
+  -- the position of one number 64 j + 1
   pub image-blocks : Theory.ImageBlocks
   pub image-laid : Theory.ImageLaid
   pub samples-are : Theory.SamplesAre
@@ -134,7 +143,8 @@ pub record Promises : Type 1 where
   pub own-parent : Theory.OwnParent
   pub own-answer : Theory.OwnAnswer
   pub asked-of-tree : Images.AskedOfTree
-  -- questions are answered exactly if a tree's image is asked, in threes, 256 at most, and kind, node and argument of each are allowed
+  -- questions are answered exactly if a tree's image is asked, in threes, 256 at most, and kind,
+  -- node and argument of each are allowed
   pub asked-exactly : Images.AskedExactly
   pub allowed-exactly : Images.AllowedExactly
   -- the listing is the tree's own depth-first order, with depths
@@ -144,7 +154,8 @@ pub record Promises : Type 1 where
   pub listed-exactly : Images.ListedExactly
   -- code 9 names the first node in listing order at depth 64
   pub too-deep-is-named : Images.TooDeepIsNamed
-  -- Demand 3. Strings end to end: no other list gives those bits, and no tree's string is the beginning of another tree's
+  -- Demand 3. Strings end to end: no other list gives those bits, and no tree's string is the
+  -- beginning of another tree's
   pub one-list : Theory.OneList
   pub none-begins : Theory.NoneBegins
   -- the splitter accepts exactly such strings, and gives each tree's start and size
@@ -155,10 +166,12 @@ pub record Promises : Type 1 where
   -- reading those parts gives the list back
   pub parts-of-pack : Theory.PartsOfPack
   pub parts-give-trees : Packs.PartsGiveTrees
-  -- joining adds one tree: earlier bits stay, new leftover bits are zero, bytes after the new last one stay; it answers the new length and k + 1
+  -- joining adds one tree: earlier bits stay, new leftover bits are zero, bytes after the new last
+  -- one stay; it answers the new length and k + 1
   pub join-adds-tree : Packs.JoinAddsTree
   pub join-then-split : Packs.JoinThenSplit
-  -- with the number of trees known, changing an odd number of bits never yields bits that are accepted with that number
+  -- with the number of trees known, changing an odd number of bits never yields bits that are
+  -- accepted with that number
   pub odd-changes : Theory.OddChanges
   pub odd-never-split : Packs.OddNeverSplit
   pub odd-never-joined : Packs.OddNeverJoined
@@ -169,15 +182,18 @@ pub record Promises : Type 1 where
   pub string-never-before : Strings.NeverNamedBefore
   pub pack-never-before : Packs.NeverNamedBefore
   pub join-never-before : Packs.JoinNeverNamesBefore
-  -- For any answer that is an enum a definition gives document 01's number and values for each case, and a call comes to them:
-  -- what the check finds, the end of a string's tree, what a pack is refused for and what its scan finds, what a listing takes
+  -- For any answer that is an enum a definition gives document 01's number and values for each
+  -- case, and a call comes to them:
+  -- what the check finds, the end of a string's tree, what a pack is refused for and what its scan
+  -- finds, what a listing takes
   pub checked-by-found : Images.CheckedByFound
   pub read-by-end : Strings.ReadByEnd
   pub split-by-held : Packs.SplitByHeld
   pub join-by-held : Packs.JoinByHeld
   pub held-by-scan : Packs.HeldByScan
   pub listed-by-measure : Images.ListedByMeasure
-  -- The outline prints n, m and blocks, then, if n is at most 4,000, a line for each node in listing order: number, depth, degree
+  -- The outline prints n, m and blocks, then, if n is at most 4,000, a line for each node in
+  -- listing order: number, depth, degree
   pub each-node-has-its-line : Outline.EachNodeHasItsLine
   pub only-the-heading : Outline.OnlyTheHeading
   -- after a refusal, listing included, only that

@@ -1,4 +1,5 @@
-// The nine public calls, for C and Rust: include/parlaqen.h declares them. Each is one call of its layer, with the same contract.
+// The nine public calls, for C and Rust: include/parlaqen.h declares them. Each is one call of its
+// layer, with the same contract.
 ghost use mathlib.Core.Path.{_≡_};
 ghost use Rattle.meaning.specs.Answers.{cameTo};
 ghost use Rattle.calls.specs.Calls.{stringOfParents, parentsOfString, imageOfParents, parentsOfImage, checkImage, askImage, listImage, splitPack, joinPack};

@@ -1,4 +1,4 @@
--- What must stand in the payloads of a lent image before its blocks are sealed, by words and bits.
+-- What must be in the payloads of a lent image before its blocks are sealed, by words and bits.
 use mathlib.Core.Path.{_≡_}
 use mathlib.Core.List.{List, [], _∷_}
 use Prim.Native.Nat.{ℕ, _+_, _*_, _<_}

@@ -1,4 +1,5 @@
--- The passes that fill the payloads of a lent image: what each writes, and that it changes nothing else.
+-- The passes that fill the payloads of a lent image: what each writes, and that it changes nothing
+-- else.
 use mathlib.Core.Path.{_≡_}
 use mathlib.Core.List.{List}
 use Prim.Native.Nat.{ℕ, _+_, _*_, _%_, _<_, _≤_}
@@ -10,7 +11,7 @@ use Rattle.image_words.specs.Words.{withWord}
 use Rattle.seal_r1.specs.Passes.{blocksFor}
 use Rattle.seal_frame.specs.Filled.{Filled}
 
--- ---- the counts of earlier ones, for the string of n bits that stands from block `from` on
+-- ---- the counts of earlier ones, for the string of n bits that is from block `from` on
 
 pub record CountsWritten (old bytes : List ℕ) (from n : ℕ) : Type 0 where
   pub counts : (j : ℕ) → j < stringBlocks n → wordAt bytes (512 * (from + j)) ≡ ones (take (4000 * j) (stringIn old from 0 n))

@@ -3,6 +3,7 @@ ghost use mathlib.Core.Path.{_≡_};
 ghost use mathlib.Core.List.{_++_};
 ghost use Prim.Native.Nat.{_+_, _*_, _≤_};
 ghost use lib.ListN.{length, drop, replicate};
+ghost use Rattle.theory.specs.Bounds.{mostBlock};
 ghost use Rattle.meaning.specs.Image.{stringBlocks};
 ghost use Rattle.seal_frame.specs.Passes.{CountsWritten, headed};
 use image_layout::Layout;
@@ -21,7 +22,7 @@ pub fn clear(image: &mut [u8], bytes: usize)
 
 // The counts of earlier ones in the blocks from `from` on, which hold n bits.
 pub fn put_counts(image: &mut [u8], from: usize, n: usize)
-    requires { ⌜ from ≤ 53 ⌝ }
+    requires { ⌜ from ≤ mostBlock ⌝ }
     requires { ⌜ n ≤ 65536 ⌝ }
     requires { ⌜ 512 * (from + stringBlocks n) ≤ length (now image) ⌝ }
     ensures { λ _. ⌜ CountsWritten (now (image .entry)) (now (image .exit)) from n ⌝ }

@@ -1,4 +1,5 @@
--- R0 put entry by entry: what the loop keeps. The byte at hand is not yet in the image, so it is the image with that byte put which has the bits.
+-- R0 put entry by entry: what the loop keeps. The byte at hand is not yet in the image, so it is
+-- the image with that byte put which has the bits.
 use mathlib.Core.Path.{_≡_, refl, sym, ap, ap₂, _∙_, subst}
 use mathlib.Core.Logic.{_↔_, _⊎_, inl, inr, ⊎-elim}
 use mathlib.Core.List.{List}

@@ -1,7 +1,8 @@
-// R0 and its samples, and with R1 all runs of a parent list, marked in an image.
+// R0 and its samples, written into an image beside R1 and its samples.
 ghost use mathlib.Core.Path.{_≡_};
 ghost use Prim.Native.Nat.{_+_, _*_, _/_, _≤_};
 ghost use lib.ListN.{length};
+ghost use Rattle.theory.specs.Bounds.{mostBlock};
 ghost use Rattle.meaning.specs.Image.{stringBlocks};
 ghost use Rattle.meaning.specs.Parents.{badEntry};
 ghost use Rattle.theory.specs.Stages.{blocksOfSamples};
@@ -11,21 +12,22 @@ use bits_wide::wide;
 use image_layout::Layout;
 use seal_r1::write_r1;
 
-// Where byte number c of a string stands whose blocks begin at `from`.
+// Where byte number c of a string is whose blocks begin at `from`.
 fn byte_place(from: usize, c: usize) -> usize
-    requires { ⌜ from ≤ 53 ⌝ }
+    requires { ⌜ from ≤ mostBlock ⌝ }
     requires { ⌜ c ≤ 70000 ⌝ }
     ensures { λ r. ⌜ r ≡ bytePlace from c ⌝ }
 {
     512 * (from + c / 500) + 4 + c % 500
 }
 
-// R0: before each entry but the first a run of zeros ends, and one after the last. The byte of the entries at hand is in `byte`, and not yet in the image.
+// R0: before each entry but the first a run of zeros ends, and one after the last. The byte of the
+// entries at hand is in `byte`, and not yet in the image.
 fn write_r0(image: &mut [u8], ps: &[u32], zeros: usize)
     requires { ⌜ 1 ≤ length (now ps) ⌝ }
     requires { ⌜ length (now ps) ≤ 65535 ⌝ }
     requires { ⌜ badEntry (now ps) ≡ 0 ⌝ }
-    requires { ⌜ zeros ≤ 53 ⌝ }
+    requires { ⌜ zeros ≤ mostBlock ⌝ }
     requires { ⌜ 512 * (zeros + stringBlocks (length (now ps) + 1)) ≤ length (now image) ⌝ }
     requires { ⌜ Blank (now image) zeros (stringBlocks (length (now ps) + 1)) ⌝ }
     ensures { λ _. ⌜ R0Written (now (image .entry)) (now (image .exit)) (now (ps .entry)) zeros ⌝ }
@@ -42,7 +44,7 @@ fn write_r0(image: &mut [u8], ps: &[u32], zeros: usize)
             let to = byte_place(zeros, c);
             byte = image[to];
         }
-        byte = byte | (128 >> (x % 8));
+        byte = byte | (0x80 >> (x % 8));
         i += 1;
     }
     let at = byte_place(zeros, c);
@@ -51,13 +53,14 @@ fn write_r0(image: &mut [u8], ps: &[u32], zeros: usize)
     bits_byte::set_bit(image, 8 * (512 * (zeros + n / 4000) + 4) + n % 4000);
 }
 
-// The samples of R0 of a list with m runs: the run of zeros with the same number as a run of ones ends before the entry after it.
+// The samples of R0 of a list with m runs: the run of zeros with the same number as a run of ones
+// ends before the entry after it.
 fn write_r0_samples(image: &mut [u8], ps: &[u32], first: usize, second: usize, m: usize)
     requires { ⌜ 1 ≤ length (now ps) ⌝ }
     requires { ⌜ length (now ps) ≤ 65535 ⌝ }
     requires { ⌜ badEntry (now ps) ≡ 0 ⌝ }
     requires { ⌜ m ≡ runsIn (now ps) ⌝ }
-    requires { ⌜ second ≤ 53 ⌝ }
+    requires { ⌜ second ≤ mostBlock ⌝ }
     requires { ⌜ first + blocksOfSamples m ≤ second ⌝ }
     requires { ⌜ 512 * (second + blocksOfSamples m) ≤ length (now image) ⌝ }
     requires { ⌜ R1SamplesKnown (now image) (now ps) first ⌝ }

@@ -1,4 +1,5 @@
--- Bytes, words and bits of an image: what a word or a bit that is put there changes, and what it leaves.
+-- Bytes, words and bits of an image: what a word or a bit that is put there changes, and what it
+-- leaves.
 use mathlib.Core.Path.{_≡_, ap, _∙_}
 use mathlib.Core.Logic.{_⊎_, ⊎-elim}
 use mathlib.Core.List.{List, _++_}

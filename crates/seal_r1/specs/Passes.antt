@@ -1,4 +1,5 @@
--- The pass that marks the runs of a parent list in a lent image: what it needs, what it writes, and that it changes nothing else.
+-- The pass that marks the runs of a parent list in a lent image: what it needs, what it writes, and
+-- that it changes nothing else.
 use mathlib.Core.Path.{_≡_}
 use mathlib.Core.Bool.{cond}
 use mathlib.Core.List.{List}
@@ -18,7 +19,8 @@ use Rattle.seal_r1_bits.specs.Listed.{runsIn}
 
 -- ---- a string in an image
 
--- the bits of r in B blocks from block `from` on, and its samples in S blocks from block `at` on; after the last of each there are zeros
+-- the bits of r in B blocks from block `from` on, and its samples in S blocks from block `at` on;
+-- after the last of each there are zeros
 pub record Part (bytes : List ℕ) (from B at S : ℕ) (r : List Bit) : Type 0 where
   pub bits : (i : ℕ) → i < 4000 * B → bitAt bytes (bitPlace from i) ≡ getD r i O
   pub words : (w : ℕ) → w < 126 * S → wordAt bytes (samplePlace at w) ≡ getD (samples r) w 0
@@ -38,7 +40,7 @@ Outside from B q = 512 * from ≤ q → q < 512 * (from + B) → ⊥
 
 -- ---- R1 byte by byte
 
--- where byte number c of a string stands whose blocks begin at block `from`
+-- where byte number c of a string is whose blocks begin at block `from`
 abbrev pub bytePlace : ℕ → ℕ → ℕ
 bytePlace from c = 512 * (from + c / 500) + 4 + c % 500
 

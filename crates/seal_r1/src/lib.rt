@@ -1,7 +1,8 @@
-// R1 and its samples, marked in an image: where the runs of ones of a parent list end.
+// R1 and its samples, written into an image: a one where a run of ones ends.
 ghost use mathlib.Core.Path.{_≡_};
 ghost use Prim.Native.Nat.{_+_, _*_, _/_, _≤_};
 ghost use lib.ListN.{length};
+ghost use Rattle.theory.specs.Bounds.{mostBlock};
 ghost use Rattle.meaning.specs.Image.{stringBlocks};
 ghost use Rattle.meaning.specs.Parents.{badEntry};
 ghost use Rattle.meaning.specs.Strings.{ones};
@@ -11,9 +12,10 @@ ghost use Rattle.seal_r1_bits.specs.Listed.{runsIn};
 ghost use Rattle.seal_r1.specs.Passes.{byteMarked, Blank, R1Written};
 use bits_wide::wide;
 
-// Byte number b, from 0, of R1, which k ones come before. Of each 64 ones the first is a sample, in the blocks from `first` on; a byte has too few for two. Answers the ones up to its end.
+// Byte number b, from 0, of R1, which k ones come before. Of each 64 ones the first is a sample, in
+// the blocks from `first` on; a byte has too few for two. Answers the ones up to its end.
 fn write_r1_byte(image: &mut [u8], first: usize, b: usize, x: u8, k: usize) -> usize
-    requires { ⌜ first ≤ 53 ⌝ }
+    requires { ⌜ first ≤ mostBlock ⌝ }
     requires { ⌜ b ≤ 8191 ⌝ }
     requires { ⌜ k ≤ 65535 ⌝ }
     requires { ⌜ 512 * (b / 500 + 2) ≤ length (now image) ⌝ }
@@ -35,12 +37,13 @@ fn write_r1_byte(image: &mut [u8], first: usize, b: usize, x: u8, k: usize) -> u
     k + ones
 }
 
-// R1 and its samples, a byte at a time: where an entry differs from the next, a run of ones ends. Answers how many.
+// R1 and its samples, a byte at a time: where an entry differs from the next, a run of ones ends.
+// Answers how many.
 pub fn write_r1(image: &mut [u8], ps: &[u32], first: usize) -> usize
     requires { ⌜ 1 ≤ length (now ps) ⌝ }
     requires { ⌜ length (now ps) ≤ 65535 ⌝ }
     requires { ⌜ badEntry (now ps) ≡ 0 ⌝ }
-    requires { ⌜ first ≤ 53 ⌝ }
+    requires { ⌜ first ≤ mostBlock ⌝ }
     requires { ⌜ 1 + stringBlocks (length (now ps)) ≤ first ⌝ }
     requires { ⌜ 512 * (first + blocksOfSamples (runsIn (now ps))) ≤ length (now image) ⌝ }
     requires { ⌜ Blank (now image) 1 (stringBlocks (length (now ps))) ⌝ }

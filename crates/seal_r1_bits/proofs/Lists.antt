@@ -173,7 +173,8 @@ R0-bit ps h x g k =
     ap₂ (λ r i. getD r i O) (R0-bits (stringOf ps) ∙ gaps-are ps 0 (n + 1)) (let f : x - 1 ≡ x - 1 - 0 = omega arith in f) in
     (λ b. s .0 (sym e ∙ b), λ m. e ∙ s .1 m)
 
--- ---- the runs of zeros and of ones with the same number: the one of zeros ends before the entry after the one of ones
+-- ---- the runs of zeros and of ones with the same number: the one of zeros ends before the entry
+-- after the one of ones
 
 run-one : (d : ℕ) → ones (replicate d O ++ I ∷ []) ≡ 1
 run-one zero = refl

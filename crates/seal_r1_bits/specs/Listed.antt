@@ -1,4 +1,5 @@
--- R1 and R0 of a parent list, entry by entry from the left: a run of ones ends where the next entry differs, and a run of zeros before that entry.
+-- R1 and R0 of a parent list, entry by entry from the left: a run of ones ends where the next entry
+-- differs, and a run of zeros before that entry.
 use mathlib.Core.Bool.{cond}
 use mathlib.Core.List.{List, [], _∷_, _++_}
 use Prim.Native.Nat.{ℕ, zero, suc, _-_}
@@ -6,7 +7,7 @@ use lib.Dec.{eqb}
 use lib.ListN.{replicate}
 use Rattle.meaning.specs.Strings.{Bit, O, I, ones, R1, stringOf}
 
--- the entry that comes first, or `end`, which stands after the last one
+-- the entry that comes first, or `end`, which is after the last one
 abbrev pub nextOf : List ℕ → ℕ → ℕ
 nextOf [] end = end
 nextOf (q ∷ qs) end = q

@@ -1,4 +1,4 @@
-// R1 of a parent list, as its entries give it: where an entry differs from the next, a run of ones ends.
+// The bits of R1 from a parent list, a one where an entry differs from the next; their number.
 ghost use mathlib.Core.Path.{_≡_};
 ghost use Prim.Native.Nat.{_+_, _<_, _≤_};
 ghost use lib.ListN.{length, getD, drop};
@@ -19,7 +19,8 @@ fn differ(a: u32, b: u32) -> u8
     0
 }
 
-// The entry after entry `i`, counted from 0. After the last one comes one more than there are entries, as if a node had to be closed there.
+// The entry after entry `i`, counted from 0. After the last one comes one more than there are
+// entries, as if a node had to be closed there.
 pub fn next_entry(ps: &[u32], i: usize) -> usize
     requires { ⌜ i < length (now ps) ⌝ }
     requires { ⌜ length (now ps) ≤ 65535 ⌝ }
@@ -31,7 +32,8 @@ pub fn next_entry(ps: &[u32], i: usize) -> usize
     ps.len() + 1
 }
 
-// How many runs of ones the string of a parent list has: as many as there are entries that differ from the next, the last among them.
+// How many runs of ones the string of a parent list has: as many as there are entries that differ
+// from the next, the last among them.
 pub fn count_runs(ps: &[u32]) -> usize
     requires { ⌜ 1 ≤ length (now ps) ⌝ }
     requires { ⌜ length (now ps) ≤ 65535 ⌝ }
@@ -64,7 +66,8 @@ fn r1_bit(ps: &[u32], i: usize) -> u8
     0
 }
 
-// Eight bits of R1 as a byte, from bit i on. All of them have an entry after theirs, so that nothing branches on where the list ends.
+// Eight bits of R1 as a byte, from bit i on. All of them have an entry after theirs, so that
+// nothing branches on where the list ends.
 fn inner_r1_byte(ps: &[u32], i: usize) -> u8
     requires { ⌜ i + 8 < length (now ps) ⌝ }
     requires { ⌜ length (now ps) ≤ 65535 ⌝ }

@@ -1,4 +1,5 @@
--- Words and sums written into an image: what they change, what they leave, and that sealing block after block gives sealed payloads.
+-- Words and sums written into an image: what they change, what they leave, and that sealing block
+-- after block gives sealed payloads.
 use mathlib.Core.Path.{_≡_, refl, sym, ap, ap₂, _∙_}
 use mathlib.Core.Logic.{_⊎_, inl, inr}
 use mathlib.Core.List.{List, [], _∷_, _++_, append-assoc, append-nil}

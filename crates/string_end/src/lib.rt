@@ -1,4 +1,4 @@
-// Tree strings: where a tree ends.
+// Where a tree ends or is refused: a labelled loop over bytes and bits.
 ghost use mathlib.Core.Path.{_≡_};
 ghost use Prim.Native.Nat.{_+_, _-_, _*_, _/_, _<_, _≤_};
 ghost use lib.ListN.{length};
@@ -11,13 +11,14 @@ use string_skip::skip_bytes;
 use string_skip::skip_words;
 use string_skip::table_of_falls;
 
-// Where the tree that starts after `at` bits ends: the bits read by then and its nodes; or the bit at which it is refused.
+// Where the tree that starts after `at` bits ends: the bits read by then and its nodes; or the bit
+// at which it is refused.
 pub enum TreeEnd {
     Over { next: usize, size: usize },
     Refused(usize),
 }
 
-// Where the bits end that stand in the byte of bit p and before bit n.
+// Where the bits end that are in the byte of bit p and before bit n.
 fn end_of_byte(p: usize, n: usize) -> usize
     requires { ⌜ p < n ⌝ }
     requires { ⌜ n ≤ 131071 ⌝ }
@@ -30,8 +31,10 @@ fn end_of_byte(p: usize, n: usize) -> usize
     end
 }
 
-// Where the tree that starts after `at` bits ends, by the table of falls: a caller that reads many trees lends one copy of it to all.
-// A loop over bytes and a loop over bits, left by the label at the bit that closes the tree or refuses it.
+// Where the tree that starts after `at` bits ends, by the table of falls: a caller that reads many
+// trees lends one copy of it to all.
+// A loop over bytes and a loop over bits, left by the label at the bit that closes the tree or
+// refuses it.
 pub fn tree_end_by(b: &[u8], n: usize, at: usize, falls: &[[u8; 16]; 16]) -> TreeEnd
     requires { ⌜ at ≤ n ⌝ }
     requires { ⌜ n ≤ 131071 ⌝ }
@@ -40,14 +43,16 @@ pub fn tree_end_by(b: &[u8], n: usize, at: usize, falls: &[[u8; 16]; 16]) -> Tre
     ensures { λ r. ⌜ endOf r ≡ treeEnd (bitsFrom (now (b .entry)) at (n - at)) at ⌝ }
 {
     let mut end = TreeEnd::Refused(n + 1);
-    // Nodes that are pending besides the one that is read, at first the super-root, and nodes that are still allowed.
+    // Nodes that are pending besides the one that is read, at first the super-root, and nodes that
+    // are still allowed.
     let mut pending: usize = 0;
     let mut room: usize = 65535;
     let mut p = at;
     'tree: while p < n {
         if p % 8 == 0 {
             if at + 2 <= p {
-                // Whole bytes at once, where their bits can neither close the tree nor pass the limit.
+                // Whole bytes at once, where their bits can neither close the tree nor pass the
+                // limit.
                 let words = skip_words(
                     b,
                     n,
@@ -70,12 +75,14 @@ pub fn tree_end_by(b: &[u8], n: usize, at: usize, falls: &[[u8; 16]; 16]) -> Tre
         let stop = end_of_byte(p, n);
         while p < stop {
             let opened = ((byte >> (7 - p % 8)) & 1) as usize;
-            // A tree begins with 10, the super-root and its one child: the first bit is not 0, and the second not 1.
+            // A tree begins with 10, the super-root and its one child: the first bit is not 0, and
+            // the second not 1.
             if p == at + opened {
                 end = TreeEnd::Refused(p + 1);
                 break 'tree;
             }
-            // A one adds a pending node, a zero takes one away; none is left to take at the bit that closes the tree.
+            // A one adds a pending node, a zero takes one away; none is left to take at the bit
+            // that closes the tree.
             if pending + opened == 0 {
                 end = TreeEnd::Over {
                     next: p + 1,

@@ -1,4 +1,5 @@
--- What the end of a tree says of the reading of its bits: where they are refused, which trees they hold, and how far the tree reaches.
+-- What the end of a tree says of the reading of its bits: where they are refused, which trees they
+-- hold, and how far the tree reaches.
 use mathlib.Core.Path.{_≡_, refl, sym, ap, ap₂, _∙_}
 use mathlib.Core.List.{List, [], _∷_}
 use mathlib.Core.Option.{none, some}

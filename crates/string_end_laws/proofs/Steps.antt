@@ -1,4 +1,5 @@
--- What the reading of a tree needs at each bit, over bytes: where the bits end, the closing bit, the bit past the limit, and any other.
+-- What the reading of a tree needs at each bit, over bytes: where the bits end, the closing bit,
+-- the bit past the limit, and any other.
 use mathlib.Core.Path.{_≡_, refl, sym, ap, ap₂, _∙_, subst}
 use mathlib.Core.List.{List, _∷_}
 use Prim.Native.Nat.{ℕ, zero, suc, _+_, _-_, _*_, _/_, _%_, _^_, _≤_, _<_}
@@ -24,7 +25,7 @@ unfolding value
 value-I O e = absurd (e refl)
 value-I I e = refl
 
--- bit p, taken out of the byte i that it stands in
+-- bit p, taken out of the byte i that it is in
 pub byte-bit : (b : List ℕ) (i p : ℕ) → 8 * i ≤ p → p < 8 * i + 8 → bitAnd (getD b i 0 / 2 ^ (7 - p % 8)) 1 ≡ value (bitAt b p)
 byte-bit b i p h g = ap (λ q. bitAnd (getD b q 0 / 2 ^ (7 - p % 8)) 1) (let e : i ≡ p / 8 = omega arith in e) ∙ digit-value b p
 
@@ -57,7 +58,8 @@ step-on I bs i w zero h g = absurd (omega arith)
 step-on I bs i w (suc m) h g =
     ap₂ (insideEnd bs (suc i)) (let e : suc w ≡ w + 2 * 1 - 1 = omega arith in e) (let e : m ≡ suc m - 1 = omega arith in e)
 
--- after r bits of a tree, the first two of them 10: w nodes are pending besides the one that is read, at first the super-root, and m more are allowed
+-- after r bits of a tree, the first two of them 10: w nodes are pending besides the one that is
+-- read, at first the super-root, and m more are allowed
 abbrev pub CountsAt : ℕ → ℕ → ℕ → Type 0
 CountsAt zero w m = (w ≡ 0) × (m ≡ 65535)
 CountsAt (suc zero) w m = (w ≡ 1) × (m ≡ 65534)

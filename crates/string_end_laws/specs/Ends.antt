@@ -1,4 +1,5 @@
--- Where a tree that starts at a bit ends, or is refused (document 01, code 4 and "Traps in the papers").
+-- Where a tree that starts at a bit ends, or is refused (document 01, code 4 and "Traps in the
+-- papers").
 use mathlib.Core.List.{List, [], _∷_}
 use Prim.Native.Nat.{ℕ, zero, suc, _-_}
 use Rattle.meaning.specs.Strings.{Bit, O, I}
@@ -6,7 +7,8 @@ use Rattle.meaning.specs.Strings.{Bit, O, I}
 pub data End : Type 0 where
   -- so many bits are read when the tree is over, and it has so many nodes
   over : (next size : ℕ) → End
-  -- the bit at which the bits are refused; one more than there are, if they end before the tree does
+  -- the bit at which the bits are refused; one more than there are, if they end before the tree
+  -- does
   refused : (place : ℕ) → End
 
 -- with i bits read: p nodes are pending besides the one that is read, and m more are allowed

@@ -170,7 +170,9 @@ read-by-end bytes L out end short size clean e =
     settle-on _ _ _ _ _ (or-neither (ltb 131071 L) (not (eqb (length bytes) (bytesFor L))) (le-ltb 131071 L short) (equal (length bytes) (bytesFor L) size))
     ∙ settle-on _ _ _ _ _ clean
     ∙ row-by-end out _ _ _ (bitsFrom bytes 0 L) end e
-    ∙ ap (λ n. settle out (endRow end n ∷ 1 at 0 when tooShort (parentsOf (bitsFrom bytes 0 L)) out ∷ []) (counts (length (parentsOf (bitsFrom bytes 0 L))) 0) (written (parentsOf (bitsFrom bytes 0 L)) out))
+    ∙ ap
+    (λ n. settle out (endRow end n ∷ 1 at 0 when tooShort (parentsOf (bitsFrom bytes 0 L)) out ∷ []) (counts (length (parentsOf (bitsFrom bytes 0 L))) 0)
+    (written (parentsOf (bitsFrom bytes 0 L)) out))
     (bits-length bytes 0 L)
 
 -- ---- damage

@@ -1,4 +1,5 @@
--- What the code of a call tells that reads bits, be they one string or a pack: its first rows are the sizes, the leftover bits and the place.
+-- What the code of a call tells that reads bits, be they one string or a pack: its first rows are
+-- the sizes, the leftover bits and the place.
 use mathlib.Core.Path.{_≡_}
 use mathlib.Core.Bool.{Bool, false}
 use mathlib.Core.List.{List, [], _∷_}

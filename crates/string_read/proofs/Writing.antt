@@ -171,7 +171,7 @@ module _ (b : List ℕ) (n : ℕ) where
         subst (λ o. Kept nodes old o r (8 * (i + 1))) (sym (e .1))
         (kept-many nodes old bs out k p r (8 * (i + 1)) h room cut (omega arith) (e .0) (omega arith))
 
-  -- what the bits behind the whole bytes write, they write into what is there by then
+  -- what the bits after the whole bytes write, they write into what is there by then
   pub kept-again : (nodes : ℕ) (old out : List ℕ) (k p : ℕ) → Kept nodes old out k p → Kept nodes out out k p
   kept-again nodes old out k p h = record { at = h .at; few = h .few; some = h .some; size = refl; made = h .made; rest = refl }
 

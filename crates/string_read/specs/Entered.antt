@@ -5,7 +5,8 @@ use lib.ListN.{set}
 use Rattle.meaning.specs.Strings.{Bit}
 use Rattle.meaning.specs.Bytes.{value}
 
--- each bit, which p bits come before, writes the zeros among those into entry k, and a one moves on to the next entry
+-- each bit, which p bits come before, writes the zeros among those into entry k, and a one moves on
+-- to the next entry
 unfoldable pub entered : List Bit → ℕ → ℕ → List ℕ → List ℕ
 entered [] k p out = out
 entered (x ∷ bs) k p out = entered bs (k + value x) (p + 1) (set out k (p - k))

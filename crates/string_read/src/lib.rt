@@ -1,4 +1,4 @@
-// What the bits of a string say: whether one is set behind the last, and the parents.
+// The bits of a string read: whether a leftover bit is set, and the parents that they give.
 ghost use mathlib.Core.Path.{_≡_};
 ghost use mathlib.Core.List.{[], _∷_};
 ghost use Prim.Native.Nat.{_+_, _*_, _≤_, _<_};
@@ -23,7 +23,8 @@ pub fn leftover_set(b: &[u8], n: usize) -> bool
     left != 0
 }
 
-// Writes the parents that the eight bits of a byte give, which p bits come before: the first of them into entry k. Answers the entry that comes next.
+// Writes the parents that the eight bits of a byte give, which p bits come before: the first of
+// them into entry k. Answers the entry that comes next.
 // A zero writes too, and what comes next writes over it, so that nothing branches on a bit.
 fn write_byte(x: u8, p: usize, k: usize, out: &mut [u32]) -> usize
     requires { ⌜ k ≤ p ⌝ }
@@ -41,7 +42,8 @@ fn write_byte(x: u8, p: usize, k: usize, out: &mut [u32]) -> usize
     next
 }
 
-// Writes the parents that the first `n` bits of `b` give, of which there are `nodes`: for each one the zeros before it.
+// Writes the parents that the first `n` bits of `b` give, of which there are `nodes`: for each one
+// the zeros before it.
 pub fn write_parents(b: &[u8], n: usize, nodes: usize, out: &mut [u32])
     requires { ⌜ n ≤ 8 * length (now b) ⌝ }
     requires { ⌜ n ≤ 131071 ⌝ }

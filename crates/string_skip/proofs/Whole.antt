@@ -56,7 +56,8 @@ module _ (b : List ℕ) (n : ℕ) (f r : ScanState) (h : ReadOn b n f r) (k x : 
             ∙ ap (λ v. insideEnd (bitsFrom b (8 * r .at) v) (8 * r .at) (r .pending) (r .room)) (let q : n - 8 * r .at ≡ 8 * k + rest = omega arith in q)
             ∙ ap (λ v. insideEnd v (8 * r .at) (r .pending) (r .room)) (bits-cut b (8 * k) rest (8 * r .at))
             ∙ skip here (bitsFrom b (8 * r .at + 8 * k) rest) (8 * r .at) (r .pending) (r .room) g (omega arith)
-            ∙ ap (λ v. insideEnd (bitsFrom b v rest) (8 * r .at + length here) (r .pending + 2 * ones here - length here) (r .room - ones here)) (let q : 8 * r .at + 8 * k ≡ 8 * (r .at + k) = omega arith in q)
+            ∙ ap (λ v. insideEnd (bitsFrom b v rest) (8 * r .at + length here) (r .pending + 2 * ones here - length here) (r .room - ones here))
+            (let q : 8 * r .at + 8 * k ≡ 8 * (r .at + k) = omega arith in q)
             ∙ same-end (bitsFrom b (8 * (r .at + k)) rest) (omega (arith, size)) (omega (arith, size)) (omega arith);
       }
 

@@ -12,6 +12,7 @@ fall [] = 0
 fall (O ∷ bs) = suc (fall bs)
 fall (I ∷ bs) = fall bs - 1
 
--- a table of the falls of all bytes, each in the row of its first four bits and there at the place of its last four
+-- a table of the falls of all bytes, each in the row of its first four bits and there at the place
+-- of its last four
 abbrev pub Falls : List (List ℕ) → Type 0
 Falls t = (x : ℕ) → x < 256 → getD (getD t (x / 16) []) (x % 16) 0 ≡ fall (byteBits x)

@@ -6,7 +6,7 @@ use Rattle.meaning.specs.Bytes.{bitsFrom}
 use Rattle.string_end_laws.specs.Ends.{End, insideEnd}
 use Rattle.string_skip.specs.declared.ScanState.{ScanState}
 
--- the end of a tree inside which the reading of the first n bits stands
+-- the end of a tree inside which the reading of the first n bits is
 unfoldable pub endAt : List ℕ → ℕ → ScanState → End
 unfolding insideEnd bitsFrom
 endAt b n r = insideEnd (bitsFrom b (8 * r .at) (n - 8 * r .at)) (8 * r .at) (r .pending) (r .room)

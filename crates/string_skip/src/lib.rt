@@ -1,4 +1,4 @@
-// Whole words and bytes of a tree string passed over, where their bits can neither close the tree nor pass its limit.
+// Words and bytes of a tree string passed over, where no bit of theirs can end the tree.
 ghost use mathlib.Core.Path.{_≡_};
 ghost use Prim.Native.Nat.{_*_, _≤_};
 ghost use lib.ListN.{length};
@@ -9,7 +9,8 @@ use bits_byte::ones_in_byte;
 use bits_wide::wide;
 use bits_word::ones_in_word;
 
-// A table of sixteen rows of sixteen: how far the pending nodes fall at most, on the way through a byte; its row is that of its first four bits, its place there that of its last four.
+// A table of sixteen rows of sixteen: how far the pending nodes fall at most, on the way through a
+// byte; its row is that of its first four bits, its place there that of its last four.
 const FALLS: [[u8; 16]; 16] = [
     [8, 7, 6, 6, 6, 5, 5, 5, 6, 5, 4, 4, 4, 4, 4, 4],
     [6, 5, 4, 4, 4, 3, 3, 3, 4, 3, 3, 3, 3, 3, 3, 3],
@@ -45,7 +46,8 @@ fn fall_of(falls: &[[u8; 16]; 16], x: u8) -> usize
     falls[(x / 16) as usize][(x % 16) as usize] as usize
 }
 
-// Where the reading of a tree stands before a byte: the bytes before it, the nodes that are pending besides the one that is read, and the nodes that are still allowed.
+// Where the reading of a tree is before a byte: the bytes before it, the nodes that are pending
+// besides the one that is read, and the nodes that are still allowed.
 pub struct ScanState {
     pub at: usize,
     pub pending: usize,
@@ -77,7 +79,8 @@ pub fn skip_words(b: &[u8], n: usize, from: ScanState) -> ScanState
     r
 }
 
-// Reads on by bytes, as long as each can neither close the tree nor pass the limit, and words cannot go on.
+// Reads on by bytes, as long as each can neither close the tree nor pass the limit, and words
+// cannot go on.
 pub fn skip_bytes(b: &[u8], n: usize, falls: &[[u8; 16]; 16], from: ScanState) -> ScanState
     requires { ⌜ Stands n from ⌝ }
     requires { ⌜ n ≤ 131071 ⌝ }

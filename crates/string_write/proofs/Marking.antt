@@ -1,4 +1,5 @@
--- What the loop that writes a string keeps: zeros all over, and the ones of the entries passed set among them.
+-- What the loop that writes a string keeps: zeros all over, and the ones of the entries passed set
+-- among them.
 use mathlib.Core.Path.{_≡_, refl, sym, ap, ap₂, _∙_, subst}
 use mathlib.Core.List.{List, [], _∷_, _++_, append-assoc}
 use Prim.Native.Nat.{ℕ, zero, suc, _+_, _-_, _*_, _≤_, _<_}
@@ -101,7 +102,8 @@ module _ (ps : List ℕ) (from : ℕ) (old : List ℕ) where
         let lr = length-append w (replicate k O) in
         let lk = length-replicate k O in
         let w′ = w ++ (replicate d O ++ I ∷ []) in
-        let lw′ : length w′ ≡ length w + suc d = length-append w (replicate d O ++ I ∷ []) ∙ ap (λ j. length w + j) (length-append (replicate d O) (I ∷ []) ∙ ap (λ j. j + 1) (length-replicate d O) ∙ add-one d) in
+        let lw′ : length w′ ≡ length w + suc d =
+        length-append w (replicate d O ++ I ∷ []) ∙ ap (λ j. length w + j) (length-append (replicate d O) (I ∷ []) ∙ ap (λ j. j + 1) (length-replicate d O) ∙ add-one d) in
         record {
           done = w′;
           last = p;

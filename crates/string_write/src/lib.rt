@@ -1,4 +1,4 @@
-// The string of a parent list, written.
+// The string of a parent list, written after the first bits of a lent buffer.
 ghost use mathlib.Core.Path.{_≡_};
 ghost use Prim.Native.Nat.{_+_, _*_, _≤_};
 ghost use lib.ListN.{length};
@@ -7,7 +7,8 @@ ghost use Rattle.meaning.specs.Strings.{stringOf};
 ghost use Rattle.bits_append.specs.Appended.{appended};
 use bits_wide::wide;
 
-// Writes the string of a parent list after the first `from` bits of a buffer: zeros, and among them a one for each entry, which comes
+// Writes the string of a parent list after the first `from` bits of a buffer: zeros, and among them
+// a one for each entry, which comes
 // after the ones of earlier entries and as many zeros as the entry says.
 pub fn write_string(buf: &mut [u8], from: usize, ps: &[u32])
     requires { ⌜ 1 ≤ length (now ps) ⌝ }

@@ -1,4 +1,4 @@
-// The sizes of packs that are split, of packs and trees that are joined, and of images (document 01, code 2).
+// Code 2: the sizes of packs that are split, of packs and trees that are joined, of images.
 ghost use Rattle.table_sizes.specs.ToSplit.{SplitSizes};
 ghost use Rattle.table_sizes.specs.ToJoin.{JoinSizes};
 ghost use Rattle.table_sizes.specs.ToCheck.{ImageSize};
@@ -24,7 +24,8 @@ pub fn split_sizes_wrong(bytes: usize, bits: usize, trees: usize) -> bool
     false
 }
 
-// Is the number of bytes, earlier bits or trees of a pack, or of nodes of a tree that is to be joined to it, wrong?
+// Is the number of bytes, earlier bits or trees of a pack, or of nodes of a tree that is to be
+// joined to it, wrong?
 pub fn join_sizes_wrong(bytes: usize, earlier: usize, trees: usize, nodes: usize) -> bool
     ensures { λ r. ⌜ JoinSizes r bytes earlier trees nodes ⌝ }
 {

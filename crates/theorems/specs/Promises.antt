@@ -1,4 +1,5 @@
--- What the theory promises of trees, parent lists, strings, packs and images, in the order of the customer's demands.
+-- What the theory promises of trees, parent lists, strings, packs and images, in the order of the
+-- customer's demands.
 -- Each name is a statement; crates/theorems/proofs/Promises.antt has a proof of each.
 use mathlib.Core.Path.{_≡_}
 use mathlib.Core.Bool.{true, false}
@@ -48,7 +49,8 @@ ParentLists = (ps : List ℕ) → IsParents ps ↔ ((t : Tree) × (parents t ≡
 abbrev pub OneTree : Type 0
 OneTree = (t u : Tree) → parents t ≡ parents u → t ≡ u
 
--- of a list that is not empty: 0 exactly if it is a parent list, and else the lowest offending entry
+-- of a list that is not empty: 0 exactly if it is a parent list, and else the lowest offending
+-- entry
 abbrev pub LowestEntry : Type 0
 LowestEntry = (ps : List ℕ) → 1 ≤ length ps
     → ((badEntry ps ≡ 0) ↔ IsParents ps) × ((badEntry ps ≡ 0 → ⊥) → Lowest ps (badEntry ps))
@@ -76,17 +78,20 @@ abbrev pub RefusedThere : Type 0
 RefusedThere = (kind : Kind) (bs : List Bit) → (place kind bs ≡ 0 → ⊥)
     → Place kind bs (place kind bs) × ((p : ℕ) → Place kind bs p → p ≡ place kind bs)
 
--- the bytes of bits: as many as document 01 says, leftover bits zero, and reading gives the bits back
+-- the bytes of bits: as many as document 01 says, leftover bits zero, and reading gives the bits
+-- back
 abbrev pub BytesBack : Type 0
 BytesBack = (bs : List Bit) → (length (packed bs) ≡ bytesFor (length bs)) × (leftover (packed bs) (length bs) ≡ false) × (bitsFrom (packed bs) 0 (length bs) ≡ bs)
 
--- no other bytes do: of that many bytes with leftover bits zero, what is read and written back is the same
+-- no other bytes do: of that many bytes with leftover bits zero, what is read and written back is
+-- the same
 abbrev pub OneBytes : Type 0
 OneBytes = (bytes : List ℕ) (L : ℕ) → AreBytes bytes → length bytes ≡ bytesFor L → leftover bytes L ≡ false → packed (bitsFrom bytes 0 L) ≡ bytes
 
 -- ---- Demand 2: partitioned strings.
 
--- R1 has n bits, R0 n + 1; both have m ones, where m is one more than the number of nodes with children
+-- R1 has n bits, R0 n + 1; both have m ones, where m is one more than the number of nodes with
+-- children
 abbrev pub PartCounts : Type 0
 PartCounts = (t : Tree) → (length (R1 (lbs t)) ≡ nodes t) × (length (R0 (lbs t)) ≡ nodes t + 1)
     × (ones (R1 (lbs t)) ≡ withChildren t + 1) × (ones (R0 (lbs t)) ≡ withChildren t + 1)
@@ -98,11 +103,13 @@ PartsBack = (t : Tree) → (woven (R1 (lbs t)) (R0 (lbs t)) ≡ lbs t)
 
 -- ---- Demand 2: what the strings give, of node x of n.
 
--- the parent of i is the position in R0 of that one whose number is the count of ones left of i in R1
+-- the parent of i is the position in R0 of that one whose number is the count of ones left of i in
+-- R1
 abbrev pub ParentByStrings : Type 0
 ParentByStrings = (t : Tree) (i : ℕ) → 1 ≤ i → i ≤ nodes t → entry (parents t) i ≡ position (R0 (lbs t)) (onesLeft (R1 (lbs t)) i)
 
--- the ones of the string before its z-th zero number the position in R1 of that one whose number is 1 plus the ones left of z in R0
+-- the ones of the string before its z-th zero number the position in R1 of that one whose number is
+-- 1 plus the ones left of z in R0
 abbrev pub OnesByStrings : Type 0
 OnesByStrings = (t : Tree) (z : ℕ) → 1 ≤ z → z ≤ nodes t + 1 → onesBefore (lbs t) z ≡ position (R1 (lbs t)) (1 + onesLeft (R0 (lbs t)) z)
 
@@ -124,17 +131,20 @@ abbrev pub AnswersByStrings : Type 0
 AnswersByStrings = (t : Tree) (kind : Ask) (x : ℕ) → 1 ≤ x → x ≤ nodes t → (z : ℤ)
     → answer (parents t) kind x z ≡ byStrings (R1 (lbs t)) (R0 (lbs t)) kind x z
 
--- ---- Demand 2: the tree's own answers. Node number x is the x-th in level order, and known by its address.
+-- ---- Demand 2: the tree's own answers. Node number x is the x-th in level order, and known by its
+-- address.
 
 -- an address has one number
 abbrev pub OneNumber : Type 0
 OneNumber = (t : Tree) (a : List ℕ) (x y : ℕ) → Number t a x → Number t a y → x ≡ y
 
--- what the parent list gives as children of x are, in order, the numbers of the children of the x-th node
+-- what the parent list gives as children of x are, in order, the numbers of the children of the
+-- x-th node
 abbrev pub OwnChildren : Type 0
 OwnChildren = (t : Tree) (x : ℕ) → 1 ≤ x → x ≤ nodes t → map (nodeAt t) (childrenOf (parents t) x) ≡ childNodes (nodeAt t x)
 
--- its parent is the number of the node that has it as a child, at the depth above; and its siblings are that node's children
+-- its parent is the number of the node that has it as a child, at the depth above; and its siblings
+-- are that node's children
 abbrev pub OwnParent : Type 0
 OwnParent = (t : Tree) (x : ℕ) → 2 ≤ x → x ≤ nodes t
     → let p = entry (parents t) x in
@@ -148,7 +158,8 @@ abbrev pub OwnAnswer : Type 0
 OwnAnswer = (t : Tree) (kind : Ask) (x : ℕ) → 1 ≤ x → x ≤ nodes t → (z : ℤ)
     → Gives t kind (nodeAt t x .address) (nodeAt t x .below) z (answer (parents t) kind x z)
 
--- the listing is the depth-first order of everything below x, with depths, if no node below it is at depth 64
+-- the listing is the depth-first order of everything below x, with depths, if no node below it is
+-- at depth 64
 abbrev pub OwnListing : Type 0
 OwnListing = (t : Tree) (x : ℕ) → 1 ≤ x → x ≤ nodes t
     → let v = nodeAt t x in
@@ -174,7 +185,8 @@ abbrev pub ImageBlocks : Type 0
 ImageBlocks = (t : Tree) → nodes t ≤ 65535
     → (length (image t) ≡ 512 * blocksIn (image t)) × (5 ≤ blocksIn (image t)) × (blocksIn (image t) ≤ 53) × (wrongBlock (image t) ≡ blocksIn (image t))
 
--- what R1, R0, counts, samples and padding must be for some tree to give these bytes, and that this is enough
+-- what R1, R0, counts, samples and padding must be for some tree to give these bytes, and that this
+-- is enough
 abbrev pub ImageLaid : Type 0
 ImageLaid = (bytes : List ℕ) → AreBytes bytes
     → ((t : Tree) × (nodes t ≤ 65535) × (image t ≡ bytes))
@@ -205,13 +217,15 @@ abbrev pub PartsOfPack : Type 0
 PartsOfPack = (ts : List Tree) (j : ℕ) (other : Tree) → Small ts → j < length ts
     → take (2 * getD (sizes (strings ts)) j 0 + 1) (drop (getD (starts (strings ts)) j 0 - 1) (strings ts)) ≡ lbs (getD ts j other)
 
--- with the number of trees known, changing an odd number of bits never yields bits that are accepted with that number
+-- with the number of trees known, changing an odd number of bits never yields bits that are
+-- accepted with that number
 abbrev pub OddChanges : Type 0
 OddChanges = (as′ bs : List Bit) (k : ℕ) → length as′ ≡ length bs
     → place many as′ ≡ 0 → length (sizes as′) ≡ k → place many bs ≡ 0 → length (sizes bs) ≡ k
     → (m : ℕ) → changed as′ bs ≡ 2 * m + 1 → ⊥
 
--- however many bits are changed, a refusal names none before the first changed bit: where the first j are the same, one after them
+-- however many bits are changed, a refusal names none before the first changed bit: where the first
+-- j are the same, one after them
 abbrev pub NeverBefore : Type 0
 NeverBefore = (kind : Kind) (as′ bs : List Bit) (j : ℕ) → place kind as′ ≡ 0 → take j as′ ≡ take j bs → j ≤ length bs
     → (place kind bs ≡ 0 → ⊥) → j < place kind bs

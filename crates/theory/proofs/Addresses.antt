@@ -1,4 +1,5 @@
--- Numbers and addresses: the children that the parent list gives to number x are those of the node with that number.
+-- Numbers and addresses: the children that the parent list gives to number x are those of the node
+-- with that number.
 use mathlib.Core.Path.{_≡_, refl, sym, ap, ap₂, _∙_}
 use mathlib.Core.List.{List, [], _∷_, _++_, map, nil≢cons, head-eq-of-cons-eq, tail-eq-of-cons-eq}
 use Prim.Native.Nat.{ℕ, zero, suc, _+_, _-_, _≤_, _<_}
@@ -66,7 +67,7 @@ under-step (v ∷ []) zero d h = omega arith
 under-step (v ∷ u ∷ vs) zero d h = omega arith
 under-step (v ∷ vs) (suc w) d h = omega (arith, under-step vs w d (omega arith))
 
--- child number j + 1 of node w stands after the children of the first w
+-- child number j + 1 of node w is after the children of the first w
 flat-at : (vs : List Node) (w j : ℕ) (d : Node) → w < length vs → j < degreeOf (getD vs w d)
     → getD (endToEnd (map childNodes vs)) (under vs w + j) d ≡ getD (childNodes (getD vs w d)) j d
 flat-at [] w j d h l = absurd (omega arith)
@@ -122,7 +123,8 @@ module _ (t : Tree) where
       ∙ ap (λ vs. getD vs (suc (under (levelOrder t) w + j)) (root t)) (level-law t)
       ∙ flat-at (levelOrder t) w j (root t) h l
 
-  -- the numbers that the parent list gives as children of x are, in order, those of the children of node x
+  -- the numbers that the parent list gives as children of x are, in order, those of the children of
+  -- node x
   pub children-nodes : (x : ℕ) → 1 ≤ x → x ≤ nodes t → map (nodeAt t) (childrenOf (parents t) x) ≡ childNodes (nodeAt t x)
   children-nodes x g h =
       let d = degreeOf (nodeAt t x) in

@@ -1,4 +1,5 @@
--- Every answer that is read off the parent list, from the strings: `lo` and `hi` are the ones before two zeros that follow each other.
+-- Every answer that is read off the parent list, from the strings: `lo` and `hi` are the ones
+-- before two zeros that follow each other.
 use mathlib.Core.Path.{_≡_, refl, sym, ap, ap₂, _∙_}
 use mathlib.Core.Logic.{_↔_}
 use Prim.Native.Nat.{ℕ, zero, suc, _+_, _-_, _≤_, _<_}

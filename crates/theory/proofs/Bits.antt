@@ -1,4 +1,5 @@
--- Tree strings: which bits are one, that none begins another, and that a list of them end to end can be cut in one way only.
+-- Tree strings: which bits are one, that none begins another, and that a list of them end to end
+-- can be cut in one way only.
 use mathlib.Core.Path.{_≡_, refl, sym, ap, ap₂, _∙_, subst}
 use mathlib.Core.List.{List, [], _∷_, _++_, append-nil, cons≢nil, nil≢cons, head-eq-of-cons-eq, tail-eq-of-cons-eq}
 use Prim.Native.Nat.{ℕ, zero, suc, _+_}

@@ -1,4 +1,5 @@
--- Trees and degree sequences are the same thing: the tree of a degree sequence, and both ways round.
+-- Trees and degree sequences are the same thing: the tree of a degree sequence, and both ways
+-- round.
 use mathlib.Core.Path.{_≡_, refl, sym, ap, ap₂, _∙_, subst}
 use mathlib.Core.List.{List, [], _∷_, _++_, cons≢nil, nil≢cons, head-eq-of-cons-eq, tail-eq-of-cons-eq}
 use Prim.Native.Nat.{ℕ, zero, suc, _+_, _-_}
@@ -45,9 +46,10 @@ degs-done (d ∷ ds) (t ∷ q) e =
     subst (λ n. Done n ds) (length-append q (children t) ∙ ap (λ k. length q + k) (head-eq-of-cons-eq e′))
     (degs-done ds (q ++ children t) (tail-eq-of-cons-eq e′))
 
--- ---- the trees of a degree sequence, read from its end: each node takes the last d of the trees that were made
+-- ---- the trees of a degree sequence, read from its end: each node takes the last d of the trees
+-- that were made
 
--- from the trees r that come after it, a node of degree d and the trees that wait behind it
+-- from the trees r that come after it, a node of degree d and the trees that wait after it
 abbrev taking : ℕ → List Tree → List Tree
 taking d r = tree (drop (length r - d) r) ∷ take (length r - d) r
 

@@ -1,4 +1,5 @@
--- All ten answers from R1 and R0: children and siblings are ranges of numbers between the ones before two zeros that follow each other.
+-- All ten answers from R1 and R0: children and siblings are ranges of numbers between the ones
+-- before two zeros that follow each other.
 use mathlib.Core.Path.{_≡_, refl, sym, ap, ap₂, _∙_, subst}
 use mathlib.Core.Bool.{Bool, true, false, cond}
 use mathlib.Core.Logic.{_↔_}

@@ -1,4 +1,5 @@
--- What the code of an answer tells of the rows that it was settled by: which did not hold, and which did.
+-- What the code of an answer tells of the rows that it was settled by: which did not hold, and
+-- which did.
 use mathlib.Core.Path.{_≡_, refl, sym, ap, _∙_}
 use mathlib.Core.Bool.{Bool, true, false, true≢false, not, _||_}
 use mathlib.Core.List.{List, [], _∷_, _++_}
@@ -76,7 +77,8 @@ module _ {A : Type 0} (before : A) (a : Answer) (after : A) (c : ℕ) where
       let q = none-held rs (o .1) (p .1) in
       ((p .0, q .0), q .1)
 
-  -- a code that one row has, and the result has not, is given with that row's place, where that row holds
+  -- a code that one row has, and the result has not, is given with that row's place, where that row
+  -- holds
   pub row-held : (upper : List Row) (row : Row) (lower : List Row) → Others c upper → Others c lower → (a .code ≡ c → ⊥)
       → settle before (upper ++ row ∷ lower) a after .answer .code ≡ c
       → (row .holds ≡ true) × (settle before (upper ++ row ∷ lower) a after .answer .place ≡ row .place)

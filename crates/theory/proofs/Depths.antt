@@ -1,4 +1,5 @@
--- The listing of a node is its depth-first order down to some depth; and what its first entry of depth 64 says of the tree.
+-- The listing of a node is its depth-first order down to some depth; and what its first entry of
+-- depth 64 says of the tree.
 use mathlib.Core.Path.{_≡_, refl, sym, ap, ap₂, _∙_, subst}
 use mathlib.Core.Bool.{Bool, true, false, cond}
 use mathlib.Core.List.{List, [], _∷_, _++_, map}

@@ -1,4 +1,5 @@
--- Numbers, bytes and words: bits in bytes, most significant bit first, and words in bytes, little-endian.
+-- Numbers, bytes and words: bits in bytes, most significant bit first, and words in bytes,
+-- little-endian.
 use mathlib.Core.Path.{_≡_, refl, sym, ap, ap₂, _∙_, subst}
 use mathlib.Core.List.{List, [], _∷_, _++_}
 use Prim.Native.Nat.{ℕ, zero, suc, _+_, _-_, _*_, _/_, _%_, _^_, _≤_, _<_}

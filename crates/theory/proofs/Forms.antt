@@ -142,7 +142,8 @@ mutual
   parts-O (suc f) k a (I ∷ b) h g l =
       let r = parts-I f k a b h g (omega arith) in (r .0, ap₂ _∷_ (weave-I f a b) (r .1))
 
--- two strings with m runs each, the second one bit longer, whose parents keep the rule, are the parts of a tree
+-- two strings with m runs each, the second one bit longer, whose parents keep the rule, are the
+-- parts of a tree
 pub tree-of-parts : (m : ℕ) (a b : List Bit) → Runs m a → Runs m b → length b ≡ suc (length a)
     → IsParents (parentsOf (woven a b)) → (t : Tree) × (R1 (lbs t) ≡ a) × (R0 (lbs t) ≡ b)
 unfolding woven parentsOf

@@ -174,7 +174,7 @@ module _ (a b : List Bit) (la : length a ≤ 65535) (lb : length b ≤ 65536) wh
 
 -- ---- and back
 
--- where block i stands
+-- where block i is
 data Region (a b : List Bit) (i : ℕ) : Type 0 where
   inHead : 0 ≡ i → Region a b i
   inR1 : (j : ℕ) → 1 + j < startR0 a b → 1 + j ≡ i → Region a b i

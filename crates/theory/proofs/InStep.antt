@@ -1,4 +1,5 @@
--- A string of m runs by its last bit, and which two strings are the parts of a tree by the ones read so far: what a check of an image counts.
+-- A string of m runs by its last bit, and which two strings are the parts of a tree by the ones
+-- read so far: what a check of an image counts.
 use mathlib.Core.Path.{_≡_, refl, sym, ap, _∙_, subst}
 use mathlib.Core.Logic.{_↔_}
 use mathlib.Core.List.{List, [], _∷_}
@@ -87,7 +88,7 @@ counted m a b h g = (
 
 -- ---- the rule along the woven bits: after i ones and z zeros, m runs of ones are still to end
 
--- in a run of ones, which is run 0: before run k stand z zeros and b's up to its one number k
+-- in a run of ones, which is run 0: before run k there are z zeros and b's up to its one number k
 abbrev PacedI : ℕ → ℕ → ℕ → List Bit → List Bit → Type 0
 PacedI m i z a b = (k : ℕ) → k < m → z + position b k ≤ i + position a k
 
@@ -150,7 +151,8 @@ not-alone (suc f) m (I ∷ a) b h l p = omega (arith, p .0)
 woven-more : (x y : Bit) (a b : List Bit) → weave (length (x ∷ a) + length b) y (x ∷ a) b ≡ weave (suc (length a + length b)) y (x ∷ a) b
 woven-more x y a b = ap (λ n. weave n y (x ∷ a) b) (let e : length (x ∷ a) + length b ≡ suc (length a + length b) = omega arith in e)
 
--- two strings of m runs, the second one bit longer: their parents keep the rule exactly if they are in step
+-- two strings of m runs, the second one bit longer: their parents keep the rule exactly if they are
+-- in step
 pub in-step : (m : ℕ) (a b : List Bit) → Runs m a → Runs m b → length b ≡ suc (length a) → IsParents (parentsOf (woven a b)) ↔ InStep a b
 unfolding parentsOf woven
 in-step zero [] [] h g e = absurd (omega arith)

@@ -2,7 +2,8 @@
 use mathlib.Core.Path.{_≡_, refl, sym, ap, ap₂, _∙_}
 use mathlib.Core.List.{List, [], _∷_, _++_, map}
 use Prim.Native.Nat.{ℕ, suc}
-use Rattle.meaning.specs.Trees.{Tree, Trees, node, none, _then_, listed, children, degree, Node, degreeOf, siblingNodes, nodesUnder, childNodes, beside, levels, levelsBelow, endToEnd, levelOrder, degrees}
+use Rattle.meaning.specs.Trees.{Tree, Trees, node, none, _then_, listed, children, degree, Node}
+use Rattle.meaning.specs.Trees.{degreeOf, siblingNodes, nodesUnder, childNodes, beside, levels, levelsBelow, endToEnd, levelOrder, degrees}
 use Rattle.theory.specs.Walks.{root}
 use Rattle.theory.proofs.Order.{beside-nil, levelsAll, order, order-queue, order-law}
 

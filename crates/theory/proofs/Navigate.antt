@@ -1,4 +1,5 @@
--- T7: what the strings give. First of any bits, by induction from the left; then of a tree's string.
+-- T7: what the strings give. First of any bits, by induction from the left; then of a tree's
+-- string.
 use mathlib.Core.Path.{_≡_, refl, sym, ap, ap₂, _∙_, subst, subst₂}
 use mathlib.Core.List.{List, [], _∷_, _++_}
 use mathlib.Core.Logic.{_↔_}
@@ -15,7 +16,7 @@ use Rattle.theory.proofs.Bits.{I≢O}
 use Rattle.theory.specs.Rank.{onesLeft, position, onesBefore, counting}
 use Rattle.meaning.specs.Questions.{keep, numbersOf, childrenOf, rankOf}
 
--- ---- the parents, read off the bits: for each one, how many zeros stand before it
+-- ---- the parents, read off the bits: for each one, how many zeros are before it
 
 before-run : (d : ℕ) (bs : List Bit) (x : ℕ) → zerosBefore (replicate d I ++ O ∷ bs) x ≡ replicate d x ++ zerosBefore bs (suc x)
 before-run zero bs x = refl
@@ -35,7 +36,8 @@ before-suc (I ∷ bs) z zero h = refl
 before-suc (I ∷ bs) z (suc i) h = before-suc bs z i (omega arith)
 before-suc (O ∷ bs) z i h = before-suc bs (suc z) i h
 
--- ---- zeros before a one: the runs of zeros before it are as many as the runs of ones, or one more where the bits begin with a zero
+-- ---- zeros before a one: the runs of zeros before it are as many as the runs of ones, or one more
+-- where the bits begin with a zero
 
 -- one more where the bits begin with a zero
 abbrev led : List Bit → ℕ → ℕ
@@ -72,7 +74,8 @@ zeros-before (O ∷ []) i h = absurd (omega arith)
 zeros-before (O ∷ I ∷ bs) i h = before-suc (I ∷ bs) 0 i h ∙ ap suc (zeros-before (I ∷ bs) i h)
 zeros-before (O ∷ O ∷ bs) i h = before-suc (O ∷ bs) 0 i h ∙ ap suc (zeros-before (O ∷ bs) i h)
 
--- T7, parent: the position in ends0 of that one whose number is the count of ones left of i in ends1
+-- T7, parent: the position in ends0 of that one whose number is the count of ones left of i in
+-- ends1
 pub parent-is : (t : Tree) (i : ℕ) → 1 ≤ i → i ≤ ones (lbs t) → entry (parents t) i ≡ position (R0 (lbs t)) (onesLeft (R1 (lbs t)) i)
 unfolding lbs onesLeft
 parent-is t zero h l = absurd (omega arith)
@@ -121,7 +124,8 @@ ones-before bs w h =
     ∙ zeros-before (flip (I ∷ bs)) w (subst (λ n. w < n) (sym (ones-flip bs)) h)
     ∙ ap₂ position (R0-flip (I ∷ bs)) (ap (λ r. suc (ones (take w r))) (R1-flip bs))
 
--- T7, ones before zero z: the position in ends1 of that one whose number is 1 plus the ones left of z in ends0
+-- T7, ones before zero z: the position in ends1 of that one whose number is 1 plus the ones left of
+-- z in ends0
 pub ones-before-is : (t : Tree) (z : ℕ) → 1 ≤ z → z ≤ zeros (lbs t) → onesBefore (lbs t) z ≡ position (R1 (lbs t)) (1 + onesLeft (R0 (lbs t)) z)
 unfolding lbs onesLeft
 ones-before-is t z h l =
@@ -181,7 +185,8 @@ onesBefore-mono (I ∷ bs) (suc z) = omega (arith, onesBefore-mono bs (suc z))
 onesBefore-mono (O ∷ bs) zero = omega arith
 onesBefore-mono (O ∷ bs) (suc z) = onesBefore-mono bs z
 
--- zero w + 1, if it is not the last, is followed by a zero exactly if no one stands between it and the next
+-- zero w + 1, if it is not the last, is followed by a zero exactly if no one is between it and
+-- the next
 pub leaf-mark : (bs : List Bit) (w : ℕ) → suc w < zeros bs
     → (getD (ends0 bs) w I ≡ O) ↔ (onesBefore bs (suc (suc w)) ≡ onesBefore bs (suc w))
 leaf-mark [] w h = absurd (omega arith)
@@ -193,13 +198,14 @@ leaf-mark (O ∷ bs) (suc w) h = leaf-mark bs w (omega arith)
 
 -- ---- a node among its siblings
 
--- one i + 1 stands after zero k and before zero k + 1, where z + k is its parent; and how many up to it have that parent
+-- one i + 1 is after zero k and before zero k + 1, where z + k is its parent; and how many up
+-- to it have that parent
 record Between (bs : List Bit) (z i k : ℕ) : Type 0 where
   parent : getD (zerosBefore bs z) i 0 ≡ z + k
   low : onesBefore bs k ≤ i
   high : i < onesBefore bs (suc k)
   count : (j : ℕ) → length (numbersOf (take (suc i) (zerosBefore bs z)) (z + k) j) ≡ suc i - onesBefore bs k
-  -- the next one stands there too exactly if ends1 has 0 here
+  -- the next one is there too exactly if ends1 has 0 here
   next : (getD (ends1 bs) i I ≡ O) ↔ (suc i < onesBefore bs (suc k))
 
 next-first : (bs : List Bit) → (ends I bs ≡ O) ↔ (1 < suc (onesBefore bs 1))

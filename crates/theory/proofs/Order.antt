@@ -1,4 +1,5 @@
--- Level order, of anything whose levels are itself and then the levels of its children: a queue, and the children of each in turn.
+-- Level order, of anything whose levels are itself and then the levels of its children: a queue,
+-- and the children of each in turn.
 use mathlib.Core.Path.{_≡_, refl, sym, ap, ap₂, _∙_}
 use mathlib.Core.List.{List, [], _∷_, _++_, map, append-nil, append-assoc}
 use Prim.Native.Nat.{ℕ, zero, suc, _+_, _≤_}
@@ -60,7 +61,7 @@ module _ {X : Type 0} (kids : X → List X) (levelsOf : X → List (List X)) (la
   unfolding height
   height-kids x xs = ap length (levels-step x xs)
 
-  -- what stands in front comes first, and its children wait behind the others
+  -- what is in front comes first, and its children wait after the others
   queue : (n : ℕ) (us vs : List X) → height levelsOf us + height levelsOf vs ≤ n → order levelsOf (us ++ vs) ≡ us ++ order levelsOf (vs ++ kidsAll kids us)
   queue zero [] vs h = ap (order levelsOf) (sym (append-nil vs))
   queue zero (u ∷ us) vs h = absurd (omega (arith, height-kids u us))

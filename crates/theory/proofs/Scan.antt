@@ -1,4 +1,5 @@
--- T4 with the limit, T6: the reading accepts exactly the strings of trees, and names the first place that begins none.
+-- T4 with the limit, T6: the reading accepts exactly the strings of trees, and names the first
+-- place that begins none.
 use mathlib.Core.Path.{_≡_, refl, sym, ap, _∙_, subst}
 use mathlib.Core.Logic.{_⊎_, inl, inr}
 use mathlib.Core.Option.{Option, none, some}

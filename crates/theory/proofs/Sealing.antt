@@ -1,4 +1,5 @@
--- Sealed payloads: where their bytes stand, that their sums always check, and that bytes whose sums check are sealed payloads.
+-- Sealed payloads: where their bytes are, that their sums always check, and that bytes whose sums
+-- check are sealed payloads.
 use mathlib.Core.Path.{_≡_, refl, sym, ap, ap₂, _∙_}
 use mathlib.Core.Bool.{Bool, true, false, cond, _&&_}
 use mathlib.Core.List.{List, [], _∷_, _++_}

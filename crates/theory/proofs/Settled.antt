@@ -1,4 +1,5 @@
--- What the tests of a call come to; the upper row wins, and a refused call leaves what is lent to it.
+-- What the tests of a call come to; the upper row wins, and a refused call leaves what is lent to
+-- it.
 use mathlib.Core.Path.{_≡_, refl, sym, ap, _∙_}
 use mathlib.Core.Bool.{Bool, true, false, cond, not, _||_}
 use mathlib.Core.List.{List, [], _∷_, _++_}

@@ -1,4 +1,5 @@
--- The stages of the check of an image: every image passes them all, and bytes whose sums check and that pass them all are an image.
+-- The stages of the check of an image: every image passes them all, and bytes whose sums check and
+-- that pass them all are an image.
 use mathlib.Core.Path.{_≡_, sym, ap, ap₂, _∙_, subst, subst₃}
 use mathlib.Core.Bool.{true}
 use mathlib.Core.List.{List, [], _∷_}
@@ -139,7 +140,7 @@ slice-bit bytes o p h =
     ∙ ap₂ (λ q e. bit (getD bytes q 0 / 2 ^ (7 - e) % 2))
     (let e : o + p / 8 ≡ (8 * o + p) / 8 = omega arith in e) (let e : p % 8 ≡ (8 * o + p) % 8 = omega arith in e)
 
--- the words of n bits that stand from block `from` on, with zeros after them
+-- the words of n bits that are from block `from` on, with zeros after them
 module _ (bytes : List ℕ) (are : AreBytes bytes) (from n : ℕ) (fits : 512 * (from + stringBlocks n) ≤ length bytes) (k : CountsAndPadding bytes from (stringIn bytes from 0 n)) where
   bit-is : (i : ℕ) → i < 4000 * stringBlocks n → bitAt bytes (bitPlace from i) ≡ getD (stringIn bytes from 0 n) i O
   bit-is i h =

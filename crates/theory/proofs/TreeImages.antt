@@ -1,4 +1,5 @@
--- Images of trees: what is read back is the tree, which bytes are an image, and how many blocks there are.
+-- Images of trees: what is read back is the tree, which bytes are an image, and how many blocks
+-- there are.
 use mathlib.Core.Path.{_≡_, refl, sym, ap, ap₂, _∙_, subst}
 use mathlib.Core.Logic.{_↔_}
 use mathlib.Core.Bool.{true, _&&_}

@@ -1,4 +1,5 @@
--- The ten answers from R1 and R0 alone, by rank and select (document 01, "Questions", what the strings give).
+-- The ten answers from R1 and R0 alone, by rank and select (document 01, "Questions", what the
+-- strings give).
 use mathlib.Core.Bool.{cond}
 use mathlib.Core.List.{List}
 use Prim.Native.Nat.{ℕ, zero, suc, _+_, _-_}
@@ -23,7 +24,8 @@ unfoldable pub within : ℕ → ℕ → ℕ → ℕ
 within low high y = cond (ltb low y) (cond (leb y high) y 0) 0
 
 module _ (r1 r0 : List Bit) where
-  -- the ones of the tree string before its zero number z: node x has its children after those of x, up to those of x + 1
+  -- the ones of the tree string before its zero number z: node x has its children after those of x,
+  -- up to those of x + 1
   unfoldable pub before : ℕ → ℕ
   before zero = 0
   before (suc z) = position r1 (1 + onesLeft r0 (suc z))

@@ -1,4 +1,5 @@
--- The image word by word (document 01, "Image"): what each word must be for two strings to give these bytes.
+-- The image word by word (document 01, "Image"): what each word must be for two strings to give
+-- these bytes.
 use mathlib.Core.Path.{_≡_}
 use mathlib.Core.List.{List, [], _∷_}
 use Prim.Native.Nat.{ℕ, zero, suc, _+_, _*_, _/_, _%_, _<_}
@@ -23,11 +24,11 @@ AreBytes bytes = (i : ℕ) → i < length bytes → getD bytes i 0 < 256
 unfoldable pub wordAt : List ℕ → ℕ → ℕ
 wordAt bytes p = getD bytes p 0 + 256 * getD bytes (p + 1) 0 + 65536 * getD bytes (p + 2) 0 + 16777216 * getD bytes (p + 3) 0
 
--- where bit i of a string stands whose blocks begin at block `from`
+-- where bit i of a string is whose blocks begin at block `from`
 abbrev pub bitPlace : ℕ → ℕ → ℕ
 bitPlace from i = 8 * (512 * (from + i / 4000) + 4) + i % 4000
 
--- where sample number w, from 0, stands of samples whose blocks begin at block `from`
+-- where sample number w, from 0, is of samples whose blocks begin at block `from`
 abbrev pub samplePlace : ℕ → ℕ → ℕ
 samplePlace from w = 512 * (from + w / 126) + 4 * (w % 126)
 
@@ -39,7 +40,8 @@ sampleIn bytes from w = wordAt bytes (samplePlace from w)
 unfoldable pub bitWord : List Bit → ℕ
 bitWord bs = number 8 bs + 256 * number 8 (drop 8 bs) + 65536 * number 8 (drop 16 bs) + 16777216 * number 8 (drop 24 bs)
 
--- word w of block j of a string: the number of ones in earlier blocks, then the bits; after the last bit zero
+-- word w of block j of a string: the number of ones in earlier blocks, then the bits; after the
+-- last bit zero
 unfoldable pub stringWord : List Bit → ℕ → ℕ → ℕ
 unfolding bitWord
 stringWord r j zero = ones (take (4000 * j) r)
@@ -49,7 +51,8 @@ stringWord r j (suc w) = bitWord (drop (4000 * j + 32 * w) r)
 unfoldable pub sampleWord : List Bit → ℕ → ℕ → ℕ
 sampleWord r j w = getD (samples r) (126 * j + w) 0
 
--- where the blocks of R0, of the samples of R1 and of the samples of R0 begin, and how many blocks there are
+-- where the blocks of R0, of the samples of R1 and of the samples of R0 begin, and how many blocks
+-- there are
 module _ (a b : List Bit) where
   abbrev pub startR0 : ℕ
   startR0 = 1 + stringBlocks (length a)

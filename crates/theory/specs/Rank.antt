@@ -1,11 +1,12 @@
--- Rank and select in R1 and R0, and the ones of a tree string before a zero (document 01, "Questions", what the strings give).
+-- Rank and select in R1 and R0, and the ones of a tree string before a zero (document 01,
+-- "Questions", what the strings give).
 use mathlib.Core.List.{List, [], _∷_}
 use Prim.Native.Nat.{ℕ, zero, suc, _-_}
 use lib.ListN.{take}
 use Rattle.meaning.specs.Trees.{Tree, degrees}
 use Rattle.meaning.specs.Strings.{Bit, O, I, ones}
 
--- how many ones stand strictly left of position i, positions from 1
+-- how many ones are strictly left of position i, positions from 1
 unfoldable pub onesLeft : List Bit → ℕ → ℕ
 onesLeft bs i = ones (take (i - 1) bs)
 
@@ -16,7 +17,7 @@ position (b ∷ bs) zero = 0
 position (O ∷ bs) (suc k) = suc (position bs (suc k))
 position (I ∷ bs) (suc k) = suc (position bs k)
 
--- how many ones stand before zero number z; zero number 0 is the beginning
+-- how many ones are before zero number z; zero number 0 is the beginning
 abbrev pub onesBefore : List Bit → ℕ → ℕ
 onesBefore [] z = 0
 onesBefore (b ∷ bs) zero = 0

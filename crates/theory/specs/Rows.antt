@@ -10,7 +10,8 @@ abbrev pub NoneHolds : List Row → Type 0
 NoneHolds [] = Unit
 NoneHolds (r ∷ rs) = (r .holds ≡ false) × NoneHolds rs
 
--- the outcome o is that of the uppermost row that holds: its code and place, counts 0, and every lent list as before
+-- the outcome o is that of the uppermost row that holds: its code and place, counts 0, and every
+-- lent list as before
 pub record Refused {A : Type 0} (before : A) (rows : List Row) (o : Outcome A) : Type 0 where
   pub upper : List Row
   pub row : Row

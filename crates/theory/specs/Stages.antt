@@ -1,4 +1,5 @@
--- The stages of the check of an image whose blocks all check: what each looks at (document 01, "Image", and code 7).
+-- The stages of the check of an image whose blocks all check: what each looks at (document 01,
+-- "Image", and code 7).
 use mathlib.Core.Path.{_≡_}
 use mathlib.Core.List.{List}
 use Prim.Native.Nat.{ℕ, _+_, _-_, _*_, _/_, _≤_, _<_}
@@ -20,7 +21,8 @@ runsOf bytes = wordAt bytes 8
 abbrev pub blocksOfSamples : ℕ → ℕ
 blocksOfSamples m = ((m + 63) / 64 + 125) / 126
 
--- where the blocks of R0 and of the samples begin, for n nodes and m marks, and how many blocks there are
+-- where the blocks of R0 and of the samples begin, for n nodes and m marks, and how many blocks
+-- there are
 abbrev pub r0Block : ℕ → ℕ
 r0Block n = 1 + stringBlocks n
 
@@ -53,12 +55,14 @@ pub record Ended (m : ℕ) (r : List Bit) : Type 0 where
   pub count : ones r ≡ m
   pub last : getD r (length r - 1) O ≡ I
 
--- two strings in step: the first run of ones is the root alone, and before the last bit R1 never has more runs behind it than R0
+-- two strings in step: the first run of ones is the root alone, and before the last bit R1 never
+-- has more runs after it than R0
 pub record InStep (a b : List Bit) : Type 0 where
   pub first : getD a 0 O ≡ I
   pub never : (p : ℕ) → p < length a → ones (take p a) ≤ ones (take p b)
 
--- the blocks of a string r, from block `from` on: the count of earlier ones, and zeros after the last bit
+-- the blocks of a string r, from block `from` on: the count of earlier ones, and zeros after the
+-- last bit
 pub record CountsAndPadding (bytes : List ℕ) (from : ℕ) (r : List Bit) : Type 0 where
   pub counts : (j : ℕ) → j < stringBlocks (length r) → wordAt bytes (512 * (from + j)) ≡ ones (take (4000 * j) r)
   pub unused : (i : ℕ) → length r ≤ i → i < 4000 * stringBlocks (length r) → bitAt bytes (bitPlace from i) ≡ O

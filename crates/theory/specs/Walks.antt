@@ -1,4 +1,5 @@
--- What a tree itself answers, by the addresses of its nodes, and its depth-first order: against these the answers of `meaning` are held.
+-- What a tree itself answers, by the addresses of its nodes, and its depth-first order: against
+-- these the answers of `meaning` are held.
 use mathlib.Core.Path.{_≡_}
 use mathlib.Core.Bool.{cond}
 use mathlib.Core.List.{List, [], _∷_, _++_}
@@ -31,7 +32,8 @@ pub record Number (t : Tree) (a : List ℕ) (x : ℕ) : Type 0 where
 abbrev pub At : Tree → List ℕ → ℕ → Type 0
 At t a r = Number t a r ⊎ ((r ≡ 0) × ((x : ℕ) → Number t a x → ⊥))
 
--- ---- The ten kinds: r is what tree t gives to the question about the node at address a, with b the tree below it and argument z.
+-- ---- The ten kinds: r is what tree t gives to the question about the node at address a, with b
+-- the tree below it and argument z.
 
 abbrev pub ChildAt : Tree → List ℕ → ℤ → ℕ → Type 0
 ChildAt t a (pos k) r = At t (k ∷ a) r

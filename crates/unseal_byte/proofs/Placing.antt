@@ -1,4 +1,5 @@
--- The positions of ones, placed from the last bit to the first: what a bit and a piece of the bits add.
+-- The positions of ones, placed from the last bit to the first: what a bit and a piece of the bits
+-- add.
 use mathlib.Core.Path.{_≡_, refl, sym, ap, ap₂, _∙_, subst}
 use mathlib.Core.List.{List, [], _∷_, _++_, append-assoc}
 use Prim.Native.Nat.{ℕ, suc, _+_, _-_, _≤_, _<_}

@@ -51,7 +51,7 @@ spread-bit x i p old v e room = record {
 
 -- ---- piece by piece
 
--- the first j bits have their numbers, and those to come stand behind what is written
+-- the first j bits have their numbers, and those to come are after what is written
 pub record Up (all : List Bit) (i p : ℕ) (old : List ℕ) (j : ℕ) (out : List ℕ) (from : ℕ) : Type 0 where
   pub size : length out ≡ length old
   pub wide : i + length all ≤ p + ones all

@@ -1,4 +1,5 @@
--- The positions of the ones of R0, behind a 0, spread over R1 are the parents of the string woven from the two; and how the list comes to hold them.
+-- The positions of the ones of R0, after a 0, spread over R1 are the parents of the string woven
+-- from the two; and how the list comes to hold them.
 use mathlib.Core.Path.{_≡_, refl, sym, ap, ap₂, _∙_, subst}
 use mathlib.Core.List.{List, [], _∷_, _++_}
 use Prim.Native.Nat.{ℕ, zero, suc, _+_, _-_, _≤_}

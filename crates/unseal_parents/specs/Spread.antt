@@ -1,4 +1,5 @@
--- How the parents are written that two strings give: the positions of the ones of R0, spread over the bits of R1.
+-- How the parents are written that two strings give: the positions of the ones of R0, spread over
+-- the bits of R1.
 use mathlib.Core.Path.{_≡_}
 use mathlib.Core.List.{List, [], _∷_, _++_}
 use Prim.Native.Nat.{ℕ, _+_}
@@ -12,7 +13,8 @@ spread [] zs = []
 spread (O ∷ bs) zs = getD zs 0 0 ∷ spread bs zs
 spread (I ∷ bs) zs = getD zs 0 0 ∷ spread bs (drop 1 zs)
 
--- the numbers from entry p on, spread over bits and written from entry i on: entry r has the number for what comes next
+-- the numbers from entry p on, spread over bits and written from entry i on: entry r has the number
+-- for what comes next
 pub record SpreadOut (bits : List Bit) (i p : ℕ) (old out : List ℕ) (r : ℕ) : Type 0 where
   pub count : r ≡ p + ones bits
   pub made : out ≡ take i old ++ spread bits (drop p old) ++ drop (i + length bits) old

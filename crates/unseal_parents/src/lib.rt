@@ -1,4 +1,4 @@
-// The parents that R1 and R0 of an image give: the positions of the ones of R0, spread over the bits of R1.
+// The parents that R1 and R0 give: the positions of R0's ones, spread over the bits of R1.
 ghost use mathlib.Core.Path.{_≡_};
 ghost use mathlib.Core.List.{[], _∷_, _++_};
 ghost use Prim.Native.Nat.{_+_, _*_, _/_, _≤_, _<_};
@@ -12,7 +12,8 @@ ghost use Rattle.unseal_parents.specs.Spread.{InRuns, SpreadOut, spread}
 use bits_byte::bit_of;
 use unseal_r0::write_string_positions;
 
-// For each of the first n bits of a byte, from entry i on, writes the number at entry p; a one moves p on. Answers where p comes to. It never falls behind what is written.
+// For each of the first n bits of a byte, from entry i on, writes the number at entry p; a one
+// moves p on. Answers where p comes to. It never falls behind what is written.
 fn spread_byte(x: u8, n: usize, i: usize, p: usize, out: &mut [u32]) -> usize
     requires { ⌜ n ≤ 8 ⌝ }
     requires { ⌜ i + n ≤ p + ones (bitsFrom (x ∷ []) 0 n) ⌝ }
@@ -63,8 +64,10 @@ fn spread_string(b: &[u8], n: usize, p: usize, out: &mut [u32])
     spread_block(b, 512 * (1 + j) + 4, n % 4000, 4000 * j, from, out);
 }
 
-// Writes the parents that R1 and R0 give: the nodes with children, which the ones of R0 before its last bit name, go to the end of the list behind
-// a 0 for the root's parent, and are spread from there over the list. The last node's parent then stands there already.
+// Writes the parents that R1 and R0 give: the nodes with children, which the ones of R0 before its
+// last bit name, go to the end of the list after
+// a 0 for the root's parent, and are spread from there over the list. The last node's parent then
+// is there already.
 pub fn write_parents(b: &[u8], zeros: usize, n: usize, out: &mut [u32])
     requires { ⌜ n ≤ 65535 ⌝ }
     requires { ⌜ zeros ≡ r0Block n ⌝ }

@@ -1,6 +1,7 @@
 // The positions of the ones of a string of an image, written from the last to the first.
 ghost use Prim.Native.Nat.{_+_, _*_, _/_, _≤_, _<_};
 ghost use lib.ListN.{length};
+ghost use Rattle.theory.specs.Bounds.{mostBlock};
 ghost use Rattle.meaning.specs.Bytes.{bitsFrom};
 ghost use Rattle.meaning.specs.Image.{stringIn};
 ghost use Rattle.meaning.specs.Strings.{ones};
@@ -36,10 +37,11 @@ fn write_block_positions(
     low
 }
 
-// The same of the first n bits of the string whose blocks begin at block `first`, which has one bit more; the last position goes to entry n - 1.
+// The same of the first n bits of the string whose blocks begin at block `first`, which has one bit
+// more; the last position goes to entry n - 1.
 pub fn write_string_positions(b: &[u8], first: usize, n: usize, out: &mut [u32]) -> usize
     requires { ⌜ n ≤ 65535 ⌝ }
-    requires { ⌜ first ≤ 53 ⌝ }
+    requires { ⌜ first ≤ mostBlock ⌝ }
     requires { ⌜ 512 * (first + n / 4000 + 1) ≤ length (now b) ⌝ }
     requires { ⌜ ones (stringIn (now b) first 0 n) < n ⌝ }
     requires { ⌜ n ≤ length (now out) ⌝ }

@@ -22,10 +22,15 @@ number-requires : tie.Need-number-requires
 number-requires c κs = search needs
 
 returns : tie.Need-returns
-returns c = sym (node-none _ (questionAt (c .before .before .before .args .asked .now) (c .before .before .before .args .i)) (omega (arith, c .before .number .ensures ∙ ap numberOf (c .before .before .signed-at .ensures))))
+returns c =
+    sym
+    (node-none _ (questionAt (c .before .before .before .args .asked .now) (c .before .before .before .args .i))
+    (omega (arith, c .before .number .ensures ∙ ap numberOf (c .before .before .signed-at .ensures))))
 
 returns-2 : tie.Need-returns-2
-returns-2 c = let e = c .before .before .number .ensures ∙ ap numberOf (c .before .before .before .signed-at .ensures) in sym (node-beyond _ (questionAt (c .before .before .before .before .args .asked .now) (c .before .before .before .before .args .i)) (omega (arith, e)) (omega (arith, e)))
+returns-2 c =
+    let e = c .before .before .number .ensures ∙ ap numberOf (c .before .before .before .signed-at .ensures) in
+    sym (node-beyond _ (questionAt (c .before .before .before .before .args .asked .now) (c .before .before .before .before .args .i)) (omega (arith, e)) (omega (arith, e)))
 
 mul-signed-at-2 : tie.Need-mul-signed-at-2
 mul-signed-at-2 c = search needs
@@ -49,7 +54,15 @@ argument-allowed-requires : tie.Need-argument-allowed-requires
 argument-allowed-requires c κs = search needs
 
 returns-3 : tie.Need-returns-3
-returns-3 c = let e = c .before .before .before .before .before .before .number .ensures ∙ ap numberOf (c .before .before .before .before .before .before .before .signed-at .ensures) in c .argument-allowed .ensures ∙ ap₂ (λ k z. allowedKind (kindOf (pos k)) z) (c .before .before .number2 .ensures ∙ ap numberOf (c .before .before .before .signed-at2 .ensures)) (c .before .signed-at3 .ensures) ∙ sym (node-right _ (questionAt (c .before .before .before .before .before .before .before .before .args .asked .now) (c .before .before .before .before .before .before .before .before .args .i)) (omega (arith, e)) (omega (arith, e)))
+returns-3 c =
+    let e = c .before .before .before .before .before .before .number .ensures ∙ ap numberOf (c .before .before .before .before .before .before .before .signed-at .ensures) in
+    c .argument-allowed .ensures
+    ∙ ap₂ (λ k z. allowedKind (kindOf (pos k)) z) (c .before .before .number2 .ensures ∙ ap numberOf (c .before .before .before .signed-at2 .ensures))
+    (c .before .signed-at3 .ensures)
+    ∙ sym
+    (node-right _
+    (questionAt (c .before .before .before .before .before .before .before .before .args .asked .now) (c .before .before .before .before .before .before .before .before .args .i))
+    (omega (arith, e)) (omega (arith, e)))
 
 pub allowed-at-spec : {M : Type 1} → statement M
 allowed-at-spec =

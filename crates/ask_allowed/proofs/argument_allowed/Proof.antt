@@ -20,7 +20,9 @@ returns-4 : tie.Need-returns-4
 returns-4 c = search needs
 
 returns-5 : tie.Need-returns-5
-returns-5 c = zero-size (c .before .before .before .before .before .args .z .below) (c .before .before .before .before .before .args .z .size) ∙ sym (kind-plain _ _ (c .before .before .before .before .if1 .left) (c .before .before .before .if2 .left) (c .before .before .if3 .left) (c .before .if4 .left))
+returns-5 c =
+    zero-size (c .before .before .before .before .before .args .z .below) (c .before .before .before .before .before .args .z .size)
+    ∙ sym (kind-plain _ _ (c .before .before .before .before .if1 .left) (c .before .before .before .if2 .left) (c .before .before .if3 .left) (c .before .if4 .left))
 
 pub argument-allowed-spec : {M : Type 1} → statement M
 argument-allowed-spec = tie.close (tie.spec returns returns-2 returns-3 returns-4 returns-5)

@@ -28,7 +28,11 @@ cast-result : tie.Need-cast-result Inv-loop μ-loop
 cast-result c = omega arith
 
 returns : tie.Need-returns Inv-loop μ-loop
-returns c = sym (c .before .before .before .loop .inv .1 ∙ bad-here (c .before .before .before .before .args .n) (c .before .before .before .before .args .asked .now) (c .before .before .before .loop .i) (omega arith) (sym (c .before .allowed-at .ensures) ∙ not-true _ (c .if1 .taken)))
+returns c =
+    sym
+    (c .before .before .before .loop .inv .1
+    ∙ bad-here (c .before .before .before .before .args .n) (c .before .before .before .before .args .asked .now) (c .before .before .before .loop .i) (omega arith)
+    (sym (c .before .allowed-at .ensures) ∙ not-true _ (c .if1 .taken)))
 
 add-i : tie.Need-add-i Inv-loop μ-loop
 add-i c = omega arith
@@ -37,7 +41,12 @@ loop-less : tie.Need-loop-less Inv-loop μ-loop
 loop-less c = omega arith
 
 loop-again : tie.Need-loop-again Inv-loop μ-loop
-loop-again c = (omega arith, c .before .before .before .loop .inv .1 ∙ bad-next (c .before .before .before .before .args .n) (c .before .before .before .before .args .asked .now) (c .before .before .before .loop .i) (omega arith) (sym (c .before .allowed-at .ensures) ∙ not-false _ (c .if1 .left)))
+loop-again c = (
+  omega arith,
+  c .before .before .before .loop .inv .1
+      ∙ bad-next (c .before .before .before .before .args .n) (c .before .before .before .before .args .asked .now) (c .before .before .before .loop .i) (omega arith)
+      (sym (c .before .allowed-at .ensures) ∙ not-false _ (c .if1 .left)),
+)
 
 returns-2 : tie.Need-returns-2 Inv-loop μ-loop
 returns-2 c = sym (c .before .loop .inv .1 ∙ bad-end (c .before .before .args .n) (c .before .before .args .asked .now) (c .before .loop .i) (omega arith))

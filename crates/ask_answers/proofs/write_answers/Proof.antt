@@ -32,7 +32,9 @@ loop-less : tie.Need-loop-less Inv-loop μ-loop
 loop-less c = omega arith
 
 loop-again : tie.Need-loop-again Inv-loop μ-loop
-loop-again c = answered-next _ _ _ _ _ _ (c .before .before .loop .inv) (omega arith) (omega (arith, questions-count (c .before .before .before .before .before .args .asked .now))) _ (c .answer-at .ensures)
+loop-again c =
+    answered-next _ _ _ _ _ _ (c .before .before .loop .inv) (omega arith) (omega (arith, questions-count (c .before .before .before .before .before .args .asked .now))) _
+    (c .answer-at .ensures)
 
 same-length : tie.Need-same-length Inv-loop μ-loop
 same-length c = c .before .loop .inv .room

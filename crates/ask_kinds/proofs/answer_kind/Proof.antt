@@ -109,7 +109,8 @@ returns-10 : tie.Need-returns-10
 returns-10 c =
     let s = c .before .before .before in
     let a = s .args in
-    of-kind (parentsIn (a .b .now)) (a .kind) 10 (a .x) (c .sibling-at .result) (valueOf (a .z)) (ten (a .kind) (s .pre .1 .1 .0) (past 9 (a .kind) (s .pre .1 .0) (c .before .match .rest))) (c .sibling-at .ensures)
+    of-kind (parentsIn (a .b .now)) (a .kind) 10 (a .x) (c .sibling-at .result) (valueOf (a .z))
+    (ten (a .kind) (s .pre .1 .1) (past 9 (a .kind) (s .pre .1 .0) (c .before .match .rest))) (c .sibling-at .ensures)
 
 pub answer-kind-spec : {M : Type 1} → statement M
 answer-kind-spec =

@@ -1,4 +1,5 @@
--- `bits_append::blank` meets its contract. The loop's invariant: the bytes from j₀ to before j are zero, and all others are as they were.
+-- `bits_append::blank` meets its contract. The loop's invariant: the bytes from j₀ to before j are
+-- zero, and all others are as they were.
 use mathlib.Core.Path.{_≡_, refl, ap, _∙_}
 use Prim.Native.Nat.{_+_, _-_, _/_, _≤_}
 use native.Mathlib.Omega.{arith}

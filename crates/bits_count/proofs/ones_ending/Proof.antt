@@ -19,10 +19,18 @@ cast-result : tie.Need-cast-result
 cast-result c = omega arith
 
 mul-result : tie.Need-mul-result
-mul-result c = let e = ending-ones (c .before .before .args .b .now) (8 * c .before .before .args .at) (c .before .before .args .p) (c .whole-word .result) (c .before .before .pre .0) (c .whole-word .ensures) in omega (arith, ending-le (c .before .before .args .b .now) (8 * c .before .before .args .at) (c .before .before .args .p) _ (omega arith) (ap₂ _*_ (e .1) (e .2)))
+mul-result c =
+    let e =
+    ending-ones (c .before .before .args .b .now) (8 * c .before .before .args .at) (c .before .before .args .p) (c .whole-word .result) (c .before .before .pre .0)
+    (c .whole-word .ensures) in
+    omega (arith, ending-le (c .before .before .args .b .now) (8 * c .before .before .args .at) (c .before .before .args .p) _ (omega arith) (ap₂ _*_ (e .1) (e .2)))
 
 returns : tie.Need-returns
-returns c = let e = ending-ones (c .before .before .args .b .now) (8 * c .before .before .args .at) (c .before .before .args .p) (c .whole-word .result) (c .before .before .pre .0) (c .whole-word .ensures) in ap₂ _*_ (e .1) (e .2)
+returns c =
+    let e =
+    ending-ones (c .before .before .args .b .now) (8 * c .before .before .args .at) (c .before .before .args .p) (c .whole-word .result) (c .before .before .pre .0)
+    (c .whole-word .ensures) in
+    ap₂ _*_ (e .1) (e .2)
 
 pub ones-ending-spec : {M : Type 1} → statement M
 ones-ending-spec =

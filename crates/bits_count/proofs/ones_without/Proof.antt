@@ -15,7 +15,9 @@ sub-result : tie.Need-sub-result
 sub-result c = and-le-l (c .before .stored-word .result) (c .stored-word2 .result)
 
 returns : tie.Need-returns
-returns c = without-ones (c .before .before .before .args .b .now) (c .before .before .before .args .at) (c .before .before .before .args .other) (c .before .stored-word .result) (c .stored-word2 .result) (c .before .stored-word .ensures) (c .stored-word2 .ensures)
+returns c =
+    without-ones (c .before .before .before .args .b .now) (c .before .before .before .args .at) (c .before .before .before .args .other) (c .before .stored-word .result)
+    (c .stored-word2 .result) (c .before .stored-word .ensures) (c .stored-word2 .ensures)
 
 pub ones-without-spec : {M : Type 1} → statement M
 ones-without-spec =

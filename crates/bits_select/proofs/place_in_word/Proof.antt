@@ -21,7 +21,8 @@ joined1 c =
     (reached-here (a .b .now) (a .at) 8 (a .k) (a .at) 8 (a .k) 4 (here .result) (here .ensures) r (omega arith) (w .0 .left)))
     (c .if1 .came)
 
-joined2 : (c : tie.Joined2) → Reached (c .before .before .before .before .before .args .b .now) (c .before .before .before .before .before .args .at) 8 (c .before .before .before .before .before .args .k) (c .if2 .i) 2 (c .if2 .need)
+joined2 : (c : tie.Joined2)
+    → let a = c .before .before .before .before .before .args in Reached (a .b .now) (a .at) 8 (a .k) (c .if2 .i) 2 (c .if2 .need)
 joined2 c =
     let a = c .before .before .before .before .before .args in
     let here = c .before .ones-in-two in
@@ -33,16 +34,19 @@ joined2 c =
     (reached-here (a .b .now) (a .at) 8 (a .k) (c .before .before .if1 .i) 4 (c .before .before .if1 .need) 2 (here .result) (here .ensures) r (omega arith) (w .0 .left)))
     (c .if2 .came)
 
-joined3 : (c : tie.Joined3) → Reached (c .before .before .before .before .before .before .before .before .args .b .now) (c .before .before .before .before .before .before .before .before .args .at) 8 (c .before .before .before .before .before .before .before .before .args .k) (c .if3 .i) 1 (c .if3 .need)
+joined3 : (c : tie.Joined3)
+    → let a = c .before .before .before .before .before .before .before .before .args in Reached (a .b .now) (a .at) 8 (a .k) (c .if3 .i) 1 (c .if3 .need)
 joined3 c =
     let a = c .before .before .before .before .before .before .before .before .args in
     let here = c .before .ones-in-byte in
     let r = joined2 (c .before .before .before) in
     ⊎-elim
     (λ w. subst₂ (λ i need. Reached (a .b .now) (a .at) 8 (a .k) i 1 need) (sym (w .3)) (sym (w .4))
-    (reached-past (a .b .now) (a .at) 8 (a .k) (c .before .before .before .if2 .i) 2 (c .before .before .before .if2 .need) 1 (here .result) (here .ensures ∙ ap (λ l. ones l) (sym (byte-here (a .b .now) (c .before .before .before .if2 .i)))) r (w .0 .taken)))
+    (reached-past (a .b .now) (a .at) 8 (a .k) (c .before .before .before .if2 .i) 2 (c .before .before .before .if2 .need) 1 (here .result)
+    (here .ensures ∙ ap (λ l. ones l) (sym (byte-here (a .b .now) (c .before .before .before .if2 .i)))) r (w .0 .taken)))
     (λ w. subst₂ (λ i need. Reached (a .b .now) (a .at) 8 (a .k) i 1 need) (sym (w .1)) (sym (w .2))
-    (reached-here (a .b .now) (a .at) 8 (a .k) (c .before .before .before .if2 .i) 2 (c .before .before .before .if2 .need) 1 (here .result) (here .ensures ∙ ap (λ l. ones l) (sym (byte-here (a .b .now) (c .before .before .before .if2 .i)))) r (omega arith) (w .0 .left)))
+    (reached-here (a .b .now) (a .at) 8 (a .k) (c .before .before .before .if2 .i) 2 (c .before .before .before .if2 .need) 1 (here .result)
+    (here .ensures ∙ ap (λ l. ones l) (sym (byte-here (a .b .now) (c .before .before .before .if2 .i)))) r (omega arith) (w .0 .left)))
     (c .if3 .came)
 
 ones-in-four-requires : tie.Need-ones-in-four-requires
@@ -81,11 +85,11 @@ sub-result c = let r = joined3 (c .before) in omega (arith, r .start)
 mul-result : tie.Need-mul-result
 mul-result c = let r = joined3 (c .before) in omega (arith, r .start, r .end)
 
-shared-slice-read-place-by-half : tie.Need-shared-slice-read-place-by-half
-shared-slice-read-place-by-half c = let r = joined3 (c .before .before) in omega (arith, r .end)
+shared-slice-read-select-in-byte : tie.Need-shared-slice-read-select-in-byte
+shared-slice-read-select-in-byte c = let r = joined3 (c .before .before) in omega (arith, r .end)
 
-place-by-half-requires : tie.Need-place-by-half-requires
-place-by-half-requires c κs =
+select-in-byte-requires : tie.Need-select-in-byte-requires
+select-in-byte-requires c κs =
     let j = c .before .before in
     let a = j .before .before .before .before .before .before .before .before .args in
     let r = joined3 j in
@@ -102,7 +106,7 @@ returns c =
     let j = c .before .before .before in
     let a = j .before .before .before .before .before .before .before .before .args in
     let r = joined3 j in
-    ap (λ n. 8 * (j .if3 .i - a .at) + n) (c .place-by-half .ensures ∙ ap (λ l. position l (j .if3 .need)) (sym (byte-here (a .b .now) (j .if3 .i)))) ∙ r .place
+    ap (λ n. 8 * (j .if3 .i - a .at) + n) (c .select-in-byte .ensures ∙ ap (λ l. position l (j .if3 .need)) (sym (byte-here (a .b .now) (j .if3 .i)))) ∙ r .place
 
 pub place-in-word-spec : {M : Type 1} → statement M
 place-in-word-spec =
@@ -120,8 +124,8 @@ place-in-word-spec =
     add-i-3
     sub-result
     mul-result
-    shared-slice-read-place-by-half
-    place-by-half-requires
+    shared-slice-read-select-in-byte
+    select-in-byte-requires
     cast-result
     add-result
     returns)

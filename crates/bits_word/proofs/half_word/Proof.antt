@@ -58,8 +58,14 @@ add-result-3 : tie.Need-add-result-3
 add-result-3 c = search needs
 
 returns : tie.Need-returns
-returns c = let are : AreBytes (c .before .before .before .before .before .before .before .before .before .args .b .now) = λ i l. omega (arith, c .before .before .before .before .before .before .before .before .shared-slice-known .given i) in
-    four-bytes (c .before .before .before .before .before .before .before .before .before .args .b .now) are (c .before .before .before .before .before .before .before .before .before .args .at) (c .before .before .before .before .before .before .byte-to-u64 .result) (c .before .before .before .before .byte-to-u642 .result) (c .before .before .byte-to-u643 .result) (c .byte-to-u644 .result) (c .before .before .before .before .before .before .byte-to-u64 .ensures .0) (c .before .before .before .before .byte-to-u642 .ensures .0) (c .before .before .byte-to-u643 .ensures .0) (c .byte-to-u644 .ensures .0)
+returns c =
+    let are : AreBytes (c .before .before .before .before .before .before .before .before .before .args .b .now) =
+    λ i l. omega (arith, c .before .before .before .before .before .before .before .before .shared-slice-known .given i) in
+    four-bytes (c .before .before .before .before .before .before .before .before .before .args .b .now) are
+    (c .before .before .before .before .before .before .before .before .before .args .at) (c .before .before .before .before .before .before .byte-to-u64 .result)
+    (c .before .before .before .before .byte-to-u642 .result) (c .before .before .byte-to-u643 .result) (c .byte-to-u644 .result)
+    (c .before .before .before .before .before .before .byte-to-u64 .ensures .0) (c .before .before .before .before .byte-to-u642 .ensures .0)
+    (c .before .before .byte-to-u643 .ensures .0) (c .byte-to-u644 .ensures .0)
 
 pub half-word-spec : {M : Type 1} → statement M
 half-word-spec =

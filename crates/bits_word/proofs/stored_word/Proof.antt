@@ -78,13 +78,22 @@ byte-to-u64-requires-8 c κs = search needs
 returns : tie.Need-returns
 returns c =
     let a = c .before .before .before .before .before .before .before .before .before .before .before .before .before .before .before .before .before .args in
-    let bytes : AreBytes (a .b .now) = λ i l. omega (arith, c .before .before .before .before .before .before .before .before .before .before .before .before .before .before .before .before .shared-slice-known .given i) in
+    let bytes : AreBytes (a .b .now) =
+    λ i l. omega
+    (arith, c .before .before .before .before .before .before .before .before .before .before .before .before .before .before .before .before .shared-slice-known .given i) in
     glued (a .b .now) (a .at)
-    (c .before .before .before .before .before .before .before .before .before .before .before .before .before .before .byte-to-u64 .result) (c .before .before .before .before .before .before .before .before .before .before .before .before .byte-to-u642 .result) (c .before .before .before .before .before .before .before .before .before .before .byte-to-u643 .result) (c .before .before .before .before .before .before .before .before .byte-to-u644 .result) (c .before .before .before .before .before .before .byte-to-u645 .result) (c .before .before .before .before .byte-to-u646 .result) (c .before .before .byte-to-u647 .result) (c .byte-to-u648 .result)
+    (c .before .before .before .before .before .before .before .before .before .before .before .before .before .before .byte-to-u64 .result)
+    (c .before .before .before .before .before .before .before .before .before .before .before .before .byte-to-u642 .result)
+    (c .before .before .before .before .before .before .before .before .before .before .byte-to-u643 .result)
+    (c .before .before .before .before .before .before .before .before .byte-to-u644 .result) (c .before .before .before .before .before .before .byte-to-u645 .result)
+    (c .before .before .before .before .byte-to-u646 .result) (c .before .before .byte-to-u647 .result) (c .byte-to-u648 .result)
     bytes
-    (c .before .before .before .before .before .before .before .before .before .before .before .before .before .before .byte-to-u64 .ensures .0) (c .before .before .before .before .before .before .before .before .before .before .before .before .byte-to-u642 .ensures .0)
-    (c .before .before .before .before .before .before .before .before .before .before .byte-to-u643 .ensures .0) (c .before .before .before .before .before .before .before .before .byte-to-u644 .ensures .0)
-    (c .before .before .before .before .before .before .byte-to-u645 .ensures .0) (c .before .before .before .before .byte-to-u646 .ensures .0) (c .before .before .byte-to-u647 .ensures .0) (c .byte-to-u648 .ensures .0)
+    (c .before .before .before .before .before .before .before .before .before .before .before .before .before .before .byte-to-u64 .ensures .0)
+    (c .before .before .before .before .before .before .before .before .before .before .before .before .byte-to-u642 .ensures .0)
+    (c .before .before .before .before .before .before .before .before .before .before .byte-to-u643 .ensures .0)
+    (c .before .before .before .before .before .before .before .before .byte-to-u644 .ensures .0)
+    (c .before .before .before .before .before .before .byte-to-u645 .ensures .0) (c .before .before .before .before .byte-to-u646 .ensures .0)
+    (c .before .before .byte-to-u647 .ensures .0) (c .byte-to-u648 .ensures .0)
 
 pub stored-word-spec : {M : Type 1} → statement M
 stored-word-spec =

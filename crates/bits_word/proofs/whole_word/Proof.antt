@@ -21,10 +21,17 @@ half-word-requires-2 : tie.Need-half-word-requires-2
 half-word-requires-2 c κs = search needs
 
 add-result : tie.Need-add-result
-add-result c = omega (arith, number-lt 32 (bitsFrom (c .before .before .before .args .b .now) (8 * c .before .before .before .args .at) 32), number-lt 32 (bitsFrom (c .before .before .before .args .b .now) (8 * (c .before .before .before .args .at + 4)) 32))
+add-result c =
+    omega (
+      arith,
+      number-lt 32 (bitsFrom (c .before .before .before .args .b .now) (8 * c .before .before .before .args .at) 32),
+      number-lt 32 (bitsFrom (c .before .before .before .args .b .now) (8 * (c .before .before .before .args .at + 4)) 32),
+    )
 
 returns : tie.Need-returns
-returns c = two-halves (c .before .before .before .args .b .now) (c .before .before .before .args .at) (c .before .half-word .result) (c .half-word2 .result) (c .before .half-word .ensures) (c .half-word2 .ensures)
+returns c =
+    two-halves (c .before .before .before .args .b .now) (c .before .before .before .args .at) (c .before .half-word .result) (c .half-word2 .result)
+    (c .before .half-word .ensures) (c .half-word2 .ensures)
 
 pub whole-word-spec : {M : Type 1} → statement M
 whole-word-spec =

@@ -13,13 +13,19 @@ refuse-requires : tie.Need-refuse-requires
 refuse-requires c κs = search needs
 
 returns : tie.Need-returns
-returns c = let a = c .before .before .before .before .args in ap (λ r. cameTo r (a .answers .now)) (c .refuse .ensures) ∙ asked-size (a .b .now) (a .questions .now) (a .answers .now) (not-threes (a .questions .now) (λ e. c .before .if1 .taken (omega (arith, e))))
+returns c =
+    let a = c .before .before .before .before .args in
+    ap (λ r. cameTo r (a .answers .now)) (c .refuse .ensures)
+    ∙ asked-size (a .b .now) (a .questions .now) (a .answers .now) (not-threes (a .questions .now) (λ e. c .before .if1 .taken (omega (arith, e))))
 
 refuse-requires-2 : tie.Need-refuse-requires-2
 refuse-requires-2 c κs = search needs
 
 returns-2 : tie.Need-returns-2
-returns-2 c = let a = c .before .before .before .before .before .args in ap (λ r. cameTo r (a .answers .now)) (c .refuse2 .ensures) ∙ asked-size (a .b .now) (a .questions .now) (a .answers .now) (too-many (a .questions .now) (omega (arith, c .before .if2 .taken)))
+returns-2 c =
+    let a = c .before .before .before .before .before .args in
+    ap (λ r. cameTo r (a .answers .now)) (c .refuse2 .ensures)
+    ∙ asked-size (a .b .now) (a .questions .now) (a .answers .now) (too-many (a .questions .now) (omega (arith, c .before .if2 .taken)))
 
 check-requires : tie.Need-check-requires
 check-requires c κs = search needs
@@ -34,7 +40,12 @@ answer-of-requires : tie.Need-answer-of-requires
 answer-of-requires c κs = search needs
 
 returns-3 : tie.Need-returns-3
-returns-3 c = let a = c .before .before .before .before .before .before .before .before .args in ap (λ r. cameTo r (a .answers .now)) (c .answer-of .ensures ∙ ap answered (c .before .enum-told .given .1)) ∙ asked-refused (a .b .now) (a .questions .now) (a .answers .now) (threes (a .questions .now) (c .before .before .before .before .before .if1 .left) (omega (arith, c .before .before .before .before .if2 .left))) _ (sym (c .before .before .before .check .ensures) ∙ c .before .enum-told .given .1)
+returns-3 c =
+    let a = c .before .before .before .before .before .before .before .before .args in
+    ap (λ r. cameTo r (a .answers .now)) (c .answer-of .ensures ∙ ap answered (c .before .enum-told .given .1))
+    ∙ asked-refused (a .b .now) (a .questions .now) (a .answers .now)
+    (threes (a .questions .now) (c .before .before .before .before .before .if1 .left) (omega (arith, c .before .before .before .before .if2 .left))) _
+    (sym (c .before .before .before .check .ensures) ∙ c .before .enum-told .given .1)
 
 lowest-not-allowed-requires : tie.Need-lowest-not-allowed-requires
 lowest-not-allowed-requires c κs = omega (arith, c .before .before .before .before .before .if1 .left, c .before .before .before .before .if2 .left)
@@ -43,16 +54,38 @@ refuse-requires-3 : tie.Need-refuse-requires-3
 refuse-requires-3 c κs = search needs
 
 returns-4 : tie.Need-returns-4
-returns-4 c = let a = c .before .before .before .before .before .before .before .before .before .before .before .args in ap (λ r. cameTo r (a .answers .now)) (c .refuse3 .ensures ∙ ap (refusedWith 8) (c .before .before .lowest-not-allowed .ensures)) ∙ asked-bad (a .b .now) (a .questions .now) (a .answers .now) (threes (a .questions .now) (c .before .before .before .before .before .before .before .before .if1 .left) (omega (arith, c .before .before .before .before .before .before .before .if2 .left))) (c .before .before .before .before .found .given .0 .0) (sym (c .before .before .before .before .before .before .check .ensures) ∙ c .before .before .before .before .found .given .1) (λ e. c .before .if3 .taken (c .before .before .lowest-not-allowed .ensures ∙ e))
+returns-4 c =
+    let a = c .before .before .before .before .before .before .before .before .before .before .before .args in
+    ap (λ r. cameTo r (a .answers .now)) (c .refuse3 .ensures ∙ ap (refusedWith 8) (c .before .before .lowest-not-allowed .ensures))
+    ∙ asked-bad (a .b .now) (a .questions .now) (a .answers .now)
+    (threes (a .questions .now) (c .before .before .before .before .before .before .before .before .if1 .left)
+    (omega (arith, c .before .before .before .before .before .before .before .if2 .left)))
+    (c .before .before .before .before .found .given .0 .0)
+    (sym (c .before .before .before .before .before .before .check .ensures) ∙ c .before .before .before .before .found .given .1)
+    (λ e. c .before .if3 .taken (c .before .before .lowest-not-allowed .ensures ∙ e))
 
 refuse-requires-4 : tie.Need-refuse-requires-4
 refuse-requires-4 c κs = search needs
 
 returns-5 : tie.Need-returns-5
-returns-5 c = let a = c .before .before .before .before .before .before .before .before .before .before .before .before .args in ap (λ r. cameTo r (a .answers .now)) (c .refuse4 .ensures) ∙ asked-short (a .b .now) (a .questions .now) (a .answers .now) (threes (a .questions .now) (c .before .before .before .before .before .before .before .before .before .if1 .left) (omega (arith, c .before .before .before .before .before .before .before .before .if2 .left))) (c .before .before .before .before .before .found .given .0 .0) (sym (c .before .before .before .before .before .before .before .check .ensures) ∙ c .before .before .before .before .before .found .given .1) (sym (c .before .before .before .lowest-not-allowed .ensures) ∙ c .before .before .if3 .left) (c .before .if4 .taken)
+returns-5 c =
+    let a = c .before .before .before .before .before .before .before .before .before .before .before .before .args in
+    ap (λ r. cameTo r (a .answers .now)) (c .refuse4 .ensures)
+    ∙ asked-short (a .b .now) (a .questions .now) (a .answers .now)
+    (threes (a .questions .now) (c .before .before .before .before .before .before .before .before .before .if1 .left)
+    (omega (arith, c .before .before .before .before .before .before .before .before .if2 .left)))
+    (c .before .before .before .before .before .found .given .0 .0)
+    (sym (c .before .before .before .before .before .before .before .check .ensures) ∙ c .before .before .before .before .before .found .given .1)
+    (sym (c .before .before .before .lowest-not-allowed .ensures) ∙ c .before .before .if3 .left) (c .before .if4 .taken)
 
 write-answers-requires : tie.Need-write-answers-requires
-write-answers-requires c κs = (sym (c .before .before .before .before .before .before .before .check .ensures) ∙ c .before .before .before .before .before .found .given .1, (sym (c .before .before .before .lowest-not-allowed .ensures) ∙ c .before .before .if3 .left, omega (arith, questions-count (c .before .before .before .before .before .before .before .before .before .before .before .before .args .questions .now), c .before .if4 .left)))
+write-answers-requires c κs = (
+  sym (c .before .before .before .before .before .before .before .check .ensures) ∙ c .before .before .before .before .before .found .given .1,
+  (
+    sym (c .before .before .before .lowest-not-allowed .ensures) ∙ c .before .before .if3 .left,
+    omega (arith, questions-count (c .before .before .before .before .before .before .before .before .before .before .before .before .args .questions .now), c .before .if4 .left),
+  ),
+)
 
 cast-done : tie.Need-cast-done
 cast-done c = search needs
@@ -64,7 +97,17 @@ same-length : tie.Need-same-length
 same-length c = search needs
 
 returns-6 : tie.Need-returns-6
-returns-6 c = let a = c .before .before .before .before .before .before .before .before .before .before .before .before .before .before .before .before .args in ap₂ cameTo (c .done .ensures) (c .before .before .before .write-answers .ensures) ∙ asked-answered (a .b .now) (a .questions .now) (a .answers .now) (threes (a .questions .now) (c .before .before .before .before .before .before .before .before .before .before .before .before .before .if1 .left) (omega (arith, c .before .before .before .before .before .before .before .before .before .before .before .before .if2 .left))) (c .before .before .before .before .before .before .before .before .before .found .given .0 .0) (sym (c .before .before .before .before .before .before .before .before .before .before .before .check .ensures) ∙ c .before .before .before .before .before .before .before .before .before .found .given .1) (sym (c .before .before .before .before .before .before .before .lowest-not-allowed .ensures) ∙ c .before .before .before .before .before .before .if3 .left) (c .before .before .before .before .before .if4 .left)
+returns-6 c =
+    let a = c .before .before .before .before .before .before .before .before .before .before .before .before .before .before .before .before .args in
+    ap₂ cameTo (c .done .ensures) (c .before .before .before .write-answers .ensures)
+    ∙ asked-answered (a .b .now) (a .questions .now) (a .answers .now)
+    (threes (a .questions .now) (c .before .before .before .before .before .before .before .before .before .before .before .before .before .if1 .left)
+    (omega (arith, c .before .before .before .before .before .before .before .before .before .before .before .before .if2 .left)))
+    (c .before .before .before .before .before .before .before .before .before .found .given .0 .0)
+    (sym (c .before .before .before .before .before .before .before .before .before .before .before .check .ensures)
+    ∙ c .before .before .before .before .before .before .before .before .before .found .given .1)
+    (sym (c .before .before .before .before .before .before .before .lowest-not-allowed .ensures) ∙ c .before .before .before .before .before .before .if3 .left)
+    (c .before .before .before .before .before .if4 .left)
 
 pub ask-spec : {M : Type 1} → statement M
 ask-spec =

@@ -26,7 +26,9 @@ done-requires : tie.Need-done-requires
 done-requires c κs = search needs
 
 returns-2 : tie.Need-returns-2
-returns-2 c = ap (λ a. cameTo a tt) (c .done .ensures ∙ ap answered (sym (c .before .before .found .given .1) ∙ c .before .before .before .before .check .ensures)) ∙ image-answered (c .before .before .before .before .before .before .args .b .now)
+returns-2 c =
+    ap (λ a. cameTo a tt) (c .done .ensures ∙ ap answered (sym (c .before .before .found .given .1) ∙ c .before .before .before .before .check .ensures))
+    ∙ image-answered (c .before .before .before .before .before .before .args .b .now)
 
 pub check-image-spec : {M : Type 1} → statement M
 check-image-spec =

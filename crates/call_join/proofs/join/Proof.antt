@@ -57,7 +57,9 @@ same-length c = search needs
 returns-2 : tie.Need-returns-2
 returns-2 c =
     let t = c .before .before .before in
-    answered (c .refuse3 .ensures) (join-entry _ _ _ _ (sized (t .before .before .before .before)) (sym (t .enum-told .given .1) ∙ t .before .before .check-pack .ensures) (c .before .before .bad-entry .ensures) (c .before .if2 .taken))
+    answered (c .refuse3 .ensures)
+    (join-entry _ _ _ _ (sized (t .before .before .before .before)) (sym (t .enum-told .given .1) ∙ t .before .before .check-pack .ensures) (c .before .before .bad-entry .ensures)
+    (c .before .if2 .taken))
 
 mul-longer : tie.Need-mul-longer
 mul-longer c = search needs
@@ -121,7 +123,8 @@ returns-5 c =
     let t = c .before .before .before .before .before .before .before .before in
     let z = sized (t .before .before .before .before) in
     let g = sym (c .before .before .before .before .before .before .before .bad-entry .ensures) ∙ c .before .before .before .before .before .before .if2 .left in
-    join-done _ _ _ _ z (sym (t .enum-told .given .1) ∙ t .before .before .check-pack .ensures) g (good-parents _ (z .some) g) (c .done .ensures) (c .before .before .before .write-string .ensures) (c .before .before .before .before .before .if3 .left)
+    join-done _ _ _ _ z (sym (t .enum-told .given .1) ∙ t .before .before .check-pack .ensures) g (good-parents _ (z .some) g) (c .done .ensures)
+    (c .before .before .before .write-string .ensures) (c .before .before .before .before .before .if3 .left)
 
 pub join-spec : {M : Type 1} → statement M
 join-spec =

@@ -4,6 +4,7 @@ use native.Mathlib.Nat.{pos-of-ne-zero}
 use Rattle.meaning.specs.Answers.{cameTo}
 use Rattle.image_found.specs.declared.Checked.the-variants.{Sound}
 use Rattle.image_found.specs.Checked.{answered, checked}
+use Rattle.nav_strings.specs.Nodes.{IsNode}
 use Rattle.list_write.proofs.Writing.{to-list}
 use Rattle.call_list.proofs.Calling.{list-refused, list-zero, list-beyond, list-deep, list-short, list-room, list-given, where-fits}
 use borrow.Author.Needs.{needs}
@@ -13,6 +14,11 @@ use Rattle.call_list.proofs.list.Tie as tie
 -- the image that the check found
 sound : (c : tie.After-known-told) → checked (c .before .before .before .before .before .before .args .b .now) ≡ Sound (c .before .found .given .0 .0)
 sound c = sym (c .before .before .before .check .ensures) ∙ c .before .found .given .1
+
+-- a node of it
+node : (e : tie.Else2)
+    → let k = e .before .before .before in let a = k .before .before .before .before .before .before .args in IsNode (a .b .now) (k .before .found .given .0 .0) (a .node)
+node e = record { sound = sound (e .before .before .before); some = pos-of-ne-zero (e .before .before .if1 .left); most = e .if2 .left }
 
 check-requires : tie.Need-check-requires
 check-requires c κs = search needs
@@ -54,9 +60,7 @@ returns-3 c =
     ∙ list-beyond (a .b .now) (a .node) (a .out .now) (k .before .found .given .0 .0) (sound k) (c .before .if2 .taken)
 
 measure-requires : tie.Need-measure-requires
-measure-requires c κs =
-    let e = c .before in
-    (sound (e .before .before .before), (pos-of-ne-zero (e .before .before .if1 .left), (e .if2 .left, refl)))
+measure-requires c κs = (node (c .before), refl)
 
 enum-known-first : tie.Need-enum-known-first
 enum-known-first c = search needs
@@ -96,12 +100,11 @@ list-node-requires c κs =
     let e = n .before .before .before .before in
     let k = e .before .before .before in
     let a = k .before .before .before .before .before .before .args in
-    let some = pos-of-ne-zero (e .before .before .if1 .left) in
     let measured = n .before .before .measure .ensures in
     let room =
-    list-room (a .b .now) (a .node) (a .out .now) (k .before .found .given .0 .0) (sound k) some (e .if2 .left)
+    list-room (a .b .now) (a .node) (a .out .now) (k .before .found .given .0 .0) (sound k) (node e .some) (e .if2 .left)
     (n .nodes .given .0 .0) (sym (n .nodes .given .1) ∙ measured .0) (f .if3 .left) in
-    to-list (a .b .now) (k .before .found .given .0 .0) (sound k) (a .node) _ (a .out .now) some (e .if2 .left) (measured .1 .0) (where-fits _ _ (n .nodes .given .1) (measured .1 .1)) room
+    to-list (node e) _ (a .out .now) (measured .1 .0) (where-fits _ _ (n .nodes .given .1) (measured .1 .1)) room
 
 done-requires : tie.Need-done-requires
 done-requires c κs = search needs

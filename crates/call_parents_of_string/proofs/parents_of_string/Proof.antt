@@ -30,7 +30,10 @@ refuse-requires-3 : tie.Need-refuse-requires-3
 refuse-requires-3 c κs = search needs
 
 returns-3 : tie.Need-returns-3
-returns-3 c = ap (λ r. cameTo r (c .before .before .before .before .before .before .before .args .parents .now)) (c .refuse3 .ensures) ∙ parents-leftover _ _ _ (c .before .before .before .before .if1 .left) (c .before .before .before .if2 .left) (sym (c .before .before .leftover-set .ensures) ∙ c .before .if3 .taken)
+returns-3 c =
+    ap (λ r. cameTo r (c .before .before .before .before .before .before .before .args .parents .now)) (c .refuse3 .ensures)
+    ∙ parents-leftover _ _ _ (c .before .before .before .before .if1 .left) (c .before .before .before .if2 .left)
+    (sym (c .before .before .leftover-set .ensures) ∙ c .before .if3 .taken)
 
 tree-end-requires : tie.Need-tree-end-requires
 tree-end-requires c κs = search needs
@@ -57,31 +60,65 @@ refuse-requires-5 : tie.Need-refuse-requires-5
 refuse-requires-5 c κs = search needs
 
 returns-4 : tie.Need-returns-4
-returns-4 c = ap (λ r. cameTo r (c .before .before .before .before .before .before .before .before .before .before .before .before .args .parents .now)) (c .refuse5 .ensures) ∙ parents-refused _ _ _ (c .before .before .before .before .before .before .before .before .before .if1 .left) (c .before .before .before .before .before .before .before .before .if2 .left) (sym (c .before .before .before .before .before .before .before .leftover-set .ensures) ∙ c .before .before .before .before .before .before .if3 .left) _ (over-place _ _ _ (c .before .before .before .before .before .tree-end .ensures) (c .before .before .before .end2 .given .1) (c .before .if4 .taken)) (omega arith)
+returns-4 c =
+    ap (λ r. cameTo r (c .before .before .before .before .before .before .before .before .before .before .before .before .args .parents .now)) (c .refuse5 .ensures)
+    ∙ parents-refused _ _ _ (c .before .before .before .before .before .before .before .before .before .if1 .left)
+    (c .before .before .before .before .before .before .before .before .if2 .left)
+    (sym (c .before .before .before .before .before .before .before .leftover-set .ensures) ∙ c .before .before .before .before .before .before .if3 .left) _
+    (over-place _ _ _ (c .before .before .before .before .before .tree-end .ensures) (c .before .before .before .end2 .given .1) (c .before .if4 .taken)) (omega arith)
 
 refuse-requires-6 : tie.Need-refuse-requires-6
 refuse-requires-6 c κs = search needs
 
 returns-5 : tie.Need-returns-5
-returns-5 c = let w = over-whole _ _ _ (c .before .before .before .before .before .before .tree-end .ensures) (c .before .before .before .before .end2 .given .1) (c .before .before .if4 .left) in ap (λ r. cameTo r (c .before .before .before .before .before .before .before .before .before .before .before .before .before .args .parents .now)) (c .refuse6 .ensures) ∙ parents-room _ _ _ (c .before .before .before .before .before .before .before .before .before .before .if1 .left) (c .before .before .before .before .before .before .before .before .before .if2 .left) (sym (c .before .before .before .before .before .before .before .before .leftover-set .ensures) ∙ c .before .before .before .before .before .before .before .if3 .left) (w .0) _ (w .1) (c .before .if5 .taken)
+returns-5 c =
+    let w =
+    over-whole _ _ _ (c .before .before .before .before .before .before .tree-end .ensures) (c .before .before .before .before .end2 .given .1) (c .before .before .if4 .left) in
+    ap (λ r. cameTo r (c .before .before .before .before .before .before .before .before .before .before .before .before .before .args .parents .now)) (c .refuse6 .ensures)
+    ∙ parents-room _ _ _ (c .before .before .before .before .before .before .before .before .before .before .if1 .left)
+    (c .before .before .before .before .before .before .before .before .before .if2 .left)
+    (sym (c .before .before .before .before .before .before .before .before .leftover-set .ensures) ∙ c .before .before .before .before .before .before .before .if3 .left) (w .0) _
+    (w .1) (c .before .if5 .taken)
 
 write-parents-requires : tie.Need-write-parents-requires
-write-parents-requires c κs = let w = over-whole _ _ _ (c .before .before .before .before .before .before .tree-end .ensures) (c .before .before .before .before .end2 .given .1) (c .before .before .if4 .left) in (omega arith, (omega arith, (sym (w .1), c .before .if5 .left)))
+write-parents-requires c κs =
+    let w =
+    over-whole _ _ _ (c .before .before .before .before .before .before .tree-end .ensures) (c .before .before .before .before .end2 .given .1) (c .before .before .if4 .left) in
+    (omega arith, (omega arith, (sym (w .1), c .before .if5 .left)))
 
 cast-done : tie.Need-cast-done
-cast-done c = omega (arith, over-size _ _ _ (c .before .before .before .before .before .before .before .before .before .tree-end .ensures) (c .before .before .before .before .before .before .before .end2 .given .1))
+cast-done c =
+    omega (
+      arith,
+      over-size _ _ _ (c .before .before .before .before .before .before .before .before .before .tree-end .ensures)
+          (c .before .before .before .before .before .before .before .end2 .given .1),
+    )
 
 done-requires : tie.Need-done-requires
 done-requires c κs = search needs
 
 returns-6 : tie.Need-returns-6
-returns-6 c = ap (λ r. cameTo r (c .before .before .before .before .before .before .before .before .before .before .before .args .parents .now)) (c .refuse4 .ensures) ∙ parents-refused _ _ _ (c .before .before .before .before .before .before .before .before .if1 .left) (c .before .before .before .before .before .before .before .if2 .left) (sym (c .before .before .before .before .before .before .leftover-set .ensures) ∙ c .before .before .before .before .before .if3 .left) _ (refused-place _ _ _ (c .before .before .before .before .tree-end .ensures) (c .before .before .end .given .1)) (refused-from _ _ _ (c .before .before .before .before .tree-end .ensures) (c .before .before .end .given .1))
+returns-6 c =
+    ap (λ r. cameTo r (c .before .before .before .before .before .before .before .before .before .before .before .args .parents .now)) (c .refuse4 .ensures)
+    ∙ parents-refused _ _ _ (c .before .before .before .before .before .before .before .before .if1 .left) (c .before .before .before .before .before .before .before .if2 .left)
+    (sym (c .before .before .before .before .before .before .leftover-set .ensures) ∙ c .before .before .before .before .before .if3 .left) _
+    (refused-place _ _ _ (c .before .before .before .before .tree-end .ensures) (c .before .before .end .given .1))
+    (refused-from _ _ _ (c .before .before .before .before .tree-end .ensures) (c .before .before .end .given .1))
 
 same-length : tie.Need-same-length
 same-length c = search needs
 
 returns-7 : tie.Need-returns-7
-returns-7 c = let w = over-whole _ _ _ (c .before .before .before .before .before .before .before .before .before .before .tree-end .ensures) (c .before .before .before .before .before .before .before .before .end2 .given .1) (c .before .before .before .before .before .before .if4 .left) in ap₂ (λ r l. cameTo r l) (c .done .ensures) (c .before .before .before .write-parents .ensures) ∙ parents-made _ _ _ (c .before .before .before .before .before .before .before .before .before .before .before .before .before .before .if1 .left) (c .before .before .before .before .before .before .before .before .before .before .before .before .before .if2 .left) (sym (c .before .before .before .before .before .before .before .before .before .before .before .before .leftover-set .ensures) ∙ c .before .before .before .before .before .before .before .before .before .before .before .if3 .left) (w .0) _ (w .1) (c .before .before .before .before .before .if5 .left)
+returns-7 c =
+    let w =
+    over-whole _ _ _ (c .before .before .before .before .before .before .before .before .before .before .tree-end .ensures)
+    (c .before .before .before .before .before .before .before .before .end2 .given .1) (c .before .before .before .before .before .before .if4 .left) in
+    ap₂ (λ r l. cameTo r l) (c .done .ensures) (c .before .before .before .write-parents .ensures)
+    ∙ parents-made _ _ _ (c .before .before .before .before .before .before .before .before .before .before .before .before .before .before .if1 .left)
+    (c .before .before .before .before .before .before .before .before .before .before .before .before .before .if2 .left)
+    (sym (c .before .before .before .before .before .before .before .before .before .before .before .before .leftover-set .ensures)
+    ∙ c .before .before .before .before .before .before .before .before .before .before .before .if3 .left)
+    (w .0) _ (w .1) (c .before .before .before .before .before .if5 .left)
 
 pub parents-of-string-spec : {M : Type 1} → statement M
 parents-of-string-spec =

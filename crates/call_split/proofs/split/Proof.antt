@@ -47,7 +47,9 @@ refuse-requires-3 c κs = search needs
 returns-2 : tie.Need-returns-2
 returns-2 c =
     let p = c .before .before in
-    answered (c .refuse3 .ensures) (split-firsts _ _ _ _ _ (sized (p .before .before .before .before .before .before .before)) (sym (p .enum-told .given .1) ∙ p .before .before .before .before .check-and-note .ensures .0) (c .before .if2 .taken))
+    answered (c .refuse3 .ensures)
+    (split-firsts _ _ _ _ _ (sized (p .before .before .before .before .before .before .before))
+    (sym (p .enum-told .given .1) ∙ p .before .before .before .before .check-and-note .ensures .0) (c .before .if2 .taken))
 
 refuse-requires-4 : tie.Need-refuse-requires-4
 refuse-requires-4 c κs = search needs
@@ -85,7 +87,9 @@ done-requires c κs = search needs
 returns-4 : tie.Need-returns-4
 returns-4 c =
     let p = c .before .before in
-    answered (c .refuse2 .ensures) (split-refused _ _ _ _ _ (sized (p .before .before .before .before .before .before .before)) (sym (p .held .given .1) ∙ p .before .before .before .before .check-and-note .ensures .0))
+    answered (c .refuse2 .ensures)
+    (split-refused _ _ _ _ _ (sized (p .before .before .before .before .before .before .before))
+    (sym (p .held .given .1) ∙ p .before .before .before .before .check-and-note .ensures .0))
 
 same-length : tie.Need-same-length
 same-length c = search needs
@@ -98,7 +102,10 @@ returns-5 c =
     let t = c .before .before .before .before .before .before .before .before .before .before .before .before .before in
     let h = t .before .before .before .before .check-and-note .ensures in
     let all = t .enum-told .given .1 in
-    split-done _ _ _ _ _ (sized (t .before .before .before .before .before .before .before)) (sym all ∙ h .0) _ (c .done .ensures) refl (h .1 .0 all) (h .1 .1 all) (c .before .before .before .before .before .before .before .before .hand-over .ensures) (c .before .before .before .hand-over2 .ensures) (c .before .before .before .before .before .before .before .before .before .before .before .before .if2 .left) (c .before .before .before .before .before .before .before .before .before .before .before .if3 .left)
+    split-done _ _ _ _ _ (sized (t .before .before .before .before .before .before .before)) (sym all ∙ h .0) _ (c .done .ensures) refl (h .1 .0 all) (h .1 .1 all)
+    (c .before .before .before .before .before .before .before .before .hand-over .ensures) (c .before .before .before .hand-over2 .ensures)
+    (c .before .before .before .before .before .before .before .before .before .before .before .before .if2 .left)
+    (c .before .before .before .before .before .before .before .before .before .before .before .if3 .left)
 
 pub split-spec : {M : Type 1} → statement M
 split-spec =

@@ -7,7 +7,7 @@ use Rattle.meaning.specs.Answers.{firstHolding}
 use Rattle.meaning.specs.Tests.{parentRows}
 use Rattle.theory.proofs.Settled.{answered}
 use Rattle.bits_append.proofs.Appending.{appended-none}
-use Rattle.parents_check.proofs.Refusing.{Writable, writable}
+use Rattle.parents_check.proofs.Refusing.{writable}
 use Rattle.call_string_of_parents.proofs.Answers.{string-refused, string-room, string-made}
 use Rattle.call_string_of_parents.proofs.string_of_parents.Statement.{statement}
 use Rattle.call_string_of_parents.proofs.string_of_parents.Tie as tie

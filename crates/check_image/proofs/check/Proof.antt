@@ -1,5 +1,5 @@
 -- `check_image::check` meets its contract.
-use mathlib.Core.Path.{ap, _∙_}
+use mathlib.Core.Path.{ap, _∙_, subst}
 use Prim.Native.Nat.{_≤_}
 use native.Mathlib.Omega.{arith}
 use borrow.Author.Tests.{lt-ltb, le-ltb}
@@ -8,9 +8,13 @@ use lib.ListN.{length}
 use Rattle.meaning.specs.Blocks.{blocksIn, wrongBlock}
 use Rattle.image_found.specs.declared.Checked.the-variants.{Sound, Refused}
 use Rattle.image_found.proofs.Finding.{found-size, found-block, found-other, found-sound, staged, unstaged}
+use Rattle.check_header.specs.declared.HeaderFound.the-variants.{Right}
+use Rattle.check_header.specs.Told.{HeaderIs}
+use Rattle.image_string.specs.Decides.{Decides}
+use Rattle.check_stages.specs.Passes.{StringsPass}
+use Rattle.check_stages.proofs.Passing.{laid-out, together, apart}
 use Rattle.table_sizes.specs.ToCheck.{ImageSized}
 use Rattle.table_sizes.proofs.ToCheck.{none-wrong, told-wrong, told-right}
-use Rattle.image_string.proofs.Saying.{decides-held, decides-missed}
 use Rattle.check_image.proofs.check.Statement.{statement}
 use Rattle.check_image.proofs.check.Tie as tie
 
@@ -50,35 +54,66 @@ returns-2 c =
     let wrong = lt-ltb (wrongBlock bytes) (blocksIn bytes) (omega (arith, e, s .if2 .taken)) in
     c .refused2 .ensures ∙ ap (λ p. Refused (record { code = 6; place = p })) e ∙ found-block bytes (none-wrong bytes (sized (s .before .before))) wrong
 
-stages-pass-requires : tie.Need-stages-pass-requires
-stages-pass-requires c κs = let z = sized (c .before .before) in (omega (arith, z .whole), (z .some, z .most))
+read-header-requires : tie.Need-read-header-requires
+read-header-requires c κs = let z = sized (c .before .before) in (omega (arith, z .whole), (omega (arith, z .some), omega (arith, z .most)))
+
+enum-known-header : tie.Need-enum-known-header
+enum-known-header c = search needs
+
+enum-told : tie.Need-enum-told
+enum-told c = search needs
 
 refused-requires-3 : tie.Need-refused-requires-3
 refused-requires-3 c κs = search needs
 
 returns-3 : tie.Need-returns-3
 returns-3 c =
-    let s = c .before .before .before in
+    let s = c .before .before .before .before in
     let bytes = s .before .before .before .before .before .args .b .now in
+    let wrong = subst (λ h. HeaderIs h bytes) (c .before .enum-told .given .1) (c .before .before .before .read-header .ensures) in
     c .refused3 .ensures
     ∙ found-other bytes (none-wrong bytes (sized (s .before .before))) (le-ltb (wrongBlock bytes) (blocksIn bytes) (summed s))
-    (unstaged bytes (decides-missed (c .before .before .stages-pass .result) _ (c .before .before .stages-pass .ensures) (c .before .if3 .taken)))
+    (unstaged bytes (λ stages. wrong (stages .header)))
 
-layout-in-requires : tie.Need-layout-in-requires
-layout-in-requires c κs =
-    let z = sized (c .before .before .before .before) in
-    let h = decides-held (c .before .stages-pass .result) _ (c .before .stages-pass .ensures) (c .if3 .left) .header in
-    (omega (arith, z .whole, z .some), h)
+-- what the header says
+right : (c : tie.After-known-told) → HeaderIs (Right (c .before .header .given .0 .0)) (c .before .before .before .before .before .before .before .before .before .args .b .now)
+right c =
+    subst (λ h. HeaderIs h (c .before .before .before .before .before .before .before .before .before .args .b .now)) (c .before .header .given .1)
+    (c .before .before .before .read-header .ensures)
+
+strings-pass-requires : tie.Need-strings-pass-requires
+strings-pass-requires c κs =
+    let s = c .before .before .before .before in
+    let bytes = s .before .before .before .before .before .args .b .now in
+    let z = sized (s .before .before) in
+    let h = right c in
+    laid-out bytes _ (h .1) (blocksIn bytes) (omega (arith, z .whole)) (z .most) (h .0)
 
 returns-4 : tie.Need-returns-4
 returns-4 c =
-    let s = c .before .before .before in
+    let h = right (c .before .before) in
+    let s = c .before .before .before .before .before .before in
     let bytes = s .before .before .before .before .before .args .b .now in
     let z = sized (s .before .before) in
-    let passed = decides-held (c .before .before .stages-pass .result) _ (c .before .before .stages-pass .ensures) (c .before .if3 .left) in
-    ap Sound (c .layout-in .ensures)
+    let layout = c .before .before .before .header .given .0 .0 in
+    let passed = subst (λ t. Decides t (StringsPass bytes layout)) (c .if3 .taken) (c .before .strings-pass .ensures) in
+    ap Sound (h .1)
     ∙ found-sound bytes (none-wrong bytes z) (le-ltb (wrongBlock bytes) (blocksIn bytes) (summed s))
-    (staged bytes (λ k l. omega (arith, s .before .before .before .before .shared-slice-known .given k)) (omega (arith, z .whole)) (summed s) passed)
+    (staged bytes (λ k l. omega (arith, s .before .before .before .before .shared-slice-known .given k)) (omega (arith, z .whole)) (summed s) (together bytes _ (h .1) (h .0) passed))
+
+refused-requires-4 : tie.Need-refused-requires-4
+refused-requires-4 c κs = search needs
+
+returns-5 : tie.Need-returns-5
+returns-5 c =
+    let h = right (c .before .before .before) in
+    let s = c .before .before .before .before .before .before .before in
+    let bytes = s .before .before .before .before .before .args .b .now in
+    let layout = c .before .before .before .before .header .given .0 .0 in
+    let missed = subst (λ t. Decides t (StringsPass bytes layout)) (c .before .if3 .left) (c .before .before .strings-pass .ensures) in
+    c .refused4 .ensures
+    ∙ found-other bytes (none-wrong bytes (sized (s .before .before))) (le-ltb (wrongBlock bytes) (blocksIn bytes) (summed s))
+    (unstaged bytes (λ stages. missed (apart bytes _ (h .1) stages)))
 
 pub check-spec : {M : Type 1} → statement M
 check-spec =
@@ -91,8 +126,12 @@ check-spec =
     cast-refused
     refused-requires-2
     returns-2
-    stages-pass-requires
+    read-header-requires
+    enum-known-header
+    enum-told
     refused-requires-3
     returns-3
-    layout-in-requires
-    returns-4)
+    strings-pass-requires
+    returns-4
+    refused-requires-4
+    returns-5)

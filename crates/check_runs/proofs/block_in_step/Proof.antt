@@ -6,7 +6,6 @@ use native.Mathlib.Omega.{arith}
 use Rattle.check_runs_words.specs.Steps.{StepAt}
 use Rattle.check_runs.specs.Steps.{StepWithin}
 use Rattle.image_string.proofs.Saying.{decides-same}
-use Rattle.image_string.proofs.Ones.{onesTo-le}
 use Rattle.check_runs.proofs.Stepping.{step-block, block-step}
 use Rattle.check_runs.proofs.block_in_step.Statement.{statement}
 use Rattle.check_runs.proofs.block_in_step.Tie as tie
@@ -42,12 +41,7 @@ cast-words-in-step-2 : tie.Need-cast-words-in-step-2
 cast-words-in-step-2 c = search needs
 
 words-in-step-requires : tie.Need-words-in-step-requires
-words-in-step-requires c κs =
-    let a = c .before .before .before .args in
-    let b = a .b .now in
-    let most1 = onesTo-le b 1 (4000 * a .j) in
-    let most0 = onesTo-le b (a .zeros) (4000 * a .j) in
-    (omega arith, (omega arith, (omega arith, (omega arith, (omega arith, (omega arith, omega arith))))))
+words-in-step-requires c κs = search needs
 
 returns : tie.Need-returns
 returns c =
@@ -55,8 +49,8 @@ returns c =
     let b = a .b .now in
     let k1 = c .before .before .word .result in
     let k0 = c .before .word2 .result in
-    let e1 = c .before .before .word .ensures ∙ c .before .before .before .before .pre .1 .1 .1 .1 .1 .0 in
-    let e0 = c .before .word2 .ensures ∙ c .before .before .before .before .pre .1 .1 .1 .1 .1 .1 in
+    let e1 = c .before .before .word .ensures ∙ c .before .before .before .before .pre .1 .1 .1 .1 .0 in
+    let e0 = c .before .word2 .ensures ∙ c .before .before .before .before .pre .1 .1 .1 .1 .1 in
     decides-same (c .words-in-step .result) (StepAt b (512 * (1 + a .j) + 4) (512 * (a .zeros + a .j) + 4) (a .n) k1 k0) (StepWithin b (a .zeros) (4000 * a .j) (4000 * a .j + a .n))
     (step-block b (a .zeros) (a .j) (a .n) k1 k0 (omega arith) e1 e0) (block-step b (a .zeros) (a .j) (a .n) k1 k0 (omega arith) e1 e0) (c .words-in-step .ensures)
 

@@ -7,9 +7,12 @@ use Rattle.image_string.proofs.Ones.{onesTo-le}
 use Rattle.check_runs_samples.specs.Ahead.{Ahead}
 use Rattle.check_runs_samples.proofs.Telling.{told}
 use Rattle.check_runs.specs.Steps.{StepWithin}
-use Rattle.check_runs.proofs.Stepping.{step-behind, step-sampled}
+use Rattle.check_runs.proofs.Stepping.{next-count, step-behind, step-sampled}
 use Rattle.check_runs.proofs.full_block_in_step.Statement.{statement}
 use Rattle.check_runs.proofs.full_block_in_step.Tie as tie
+
+cast-zeros : tie.Need-cast-zeros
+cast-zeros c = search needs
 
 add-word : tie.Need-add-word
 add-word c = search needs
@@ -34,8 +37,13 @@ word-requires-2 c κs = search needs
 
 returns : tie.Need-returns
 returns c =
-    let a = c .before .before .before .before .args in
-    step-behind (a .b .now) (a .zeros) (4000 * a .j) (4000 * a .j + 4000) (omega arith)
+    let s = c .before .before .before .before .before in
+    let a = s .args in
+    let j = a .j in
+    let b = a .b .now in
+    let end = c .before .before .word .ensures ∙ next-count b (a .layout .nodes) j (s .pre .1 .1 .1 .0) (s .pre .1 .1 .0) in
+    let before = c .before .word2 .ensures ∙ s .pre .1 .1 .1 .1 .0 j (omega arith) in
+    step-behind b (a .layout .«r0_block») (4000 * a .j) (4000 * a .j + 4000) (omega arith)
 
 add-word-4 : tie.Need-add-word-4
 add-word-4 c = search needs
@@ -54,22 +62,31 @@ cast-samples-ahead c = search needs
 
 samples-ahead-requires : tie.Need-samples-ahead-requires
 samples-ahead-requires c κs =
-    let a = c .before .before .before .before .before .args in
-    let most = onesTo-le (a .b .now) 1 (4000 * a .j + 4000) in
-    (omega arith, (omega arith, (omega arith, (omega arith, (omega arith, (omega arith, (omega arith, omega arith)))))))
+    let s = c .before .before .before .before .before .before in
+    let a = s .args in
+    let b = a .b .now in
+    let end = c .before .before .before .word .ensures ∙ next-count b (a .layout .nodes) (a .j) (s .pre .1 .1 .1 .0) (s .pre .1 .1 .0) in
+    let most = onesTo-le b 1 (4000 * a .j + 4000) in
+    (s .pre .0, (s .pre .1 .0, (omega arith, (omega arith, omega arith))))
 
 -- samples that are ahead
 module _ (c : tie.After-word3) where
   abbrev start : tie.Start
-  start = c .before .before .before .before .before
+  start = c .before .before .before .before .before .before
 
-  by-samples : (by : ℕ) → Ahead (start .args .b .now) (start .args .samples1) (start .args .samples0) (c .word3 .result) (c .before .before .before .word .result) (start .args .m) by
-      → StepWithin (start .args .b .now) (start .args .zeros) (4000 * start .args .j) (4000 * start .args .j + 4000)
+  by-samples : (by : ℕ)
+      → Ahead (start .args .b .now) (start .args .layout .«r1_samples») (start .args .layout .«r0_samples») (c .word3 .result) (c .before .before .before .word .result) (start .args .layout .runs) by
+      → StepWithin (start .args .b .now) (start .args .layout .«r0_block») (4000 * start .args .j) (4000 * start .args .j + 4000)
   by-samples by =
       let a = start .args in
-      let p = start .pre .1 .1 .1 .1 .1 .1 .1 .1 .1 in
-      step-sampled (a .b .now) (a .zeros) (a .samples1) (a .samples0) (a .m) (c .word3 .result) (c .before .before .before .word .result) by (4000 * a .j) (4000 * a .j + 4000)
-      (p .1 .1 .1 .0) (p .1 .1 .1 .1) (c .word3 .ensures ∙ p .0) (c .before .before .before .word .ensures ∙ p .1 .0)
+      let l = a .layout in
+      let b = a .b .now in
+      let counted = start .pre .1 .1 .1 .0 in
+      let placed = start .pre .1 .1 .1 .1 .1 in
+      let before = c .word3 .ensures ∙ counted (a .j) (omega arith) in
+      let end = c .before .before .before .word .ensures ∙ next-count b (l .nodes) (a .j) counted (start .pre .1 .1 .0) in
+      step-sampled b (l .«r0_block») (l .«r1_samples») (l .«r0_samples») (l .runs) (c .word3 .result) (c .before .before .before .word .result) by
+      (4000 * a .j) (4000 * a .j + 4000) (placed .0) (placed .1) before end
 
 returns-2 : tie.Need-returns-2
 returns-2 c = by-samples (c .before .before) 4 (told (c .before .samples-ahead .result) _ (c .before .samples-ahead .ensures) (c .if2 .taken))
@@ -79,15 +96,21 @@ cast-samples-ahead-2 c = search needs
 
 samples-ahead-requires-2 : tie.Need-samples-ahead-requires-2
 samples-ahead-requires-2 c κs =
-    let a = c .before .before .before .before .before .before .before .args in
-    let most = onesTo-le (a .b .now) 1 (4000 * a .j + 4000) in
-    (omega arith, (omega arith, (omega arith, (omega arith, (omega arith, (omega arith, (omega arith, omega arith)))))))
+    let s = c .before .before .before .before .before .before .before .before in
+    let a = s .args in
+    let b = a .b .now in
+    let end = c .before .before .before .before .before .word .ensures ∙ next-count b (a .layout .nodes) (a .j) (s .pre .1 .1 .1 .0) (s .pre .1 .1 .0) in
+    let most = onesTo-le b 1 (4000 * a .j + 4000) in
+    (s .pre .0, (s .pre .1 .0, (omega arith, (omega arith, omega arith))))
 
 returns-3 : tie.Need-returns-3
 returns-3 c = by-samples (c .before .before .before .before) 1 (told (c .before .samples-ahead2 .result) _ (c .before .samples-ahead2 .ensures) (c .if3 .taken))
 
 block-in-step-requires : tie.Need-block-in-step-requires
-block-in-step-requires c κs = search needs
+block-in-step-requires c κs =
+    let s = c .before .before .before .before .before .before .before .before .before .before in
+    let j = s .args .j in
+    (omega arith, (omega arith, (omega arith, (omega arith, (s .pre .1 .1 .1 .0 j (omega arith), s .pre .1 .1 .1 .1 .0 j (omega arith))))))
 
 returns-4 : tie.Need-returns-4
 returns-4 c = search needs
@@ -96,6 +119,7 @@ pub full-block-in-step-spec : {M : Type 1} → statement M
 full-block-in-step-spec =
     tie.close
     (tie.spec
+    cast-zeros
     add-word
     add-word-2
     mul-word

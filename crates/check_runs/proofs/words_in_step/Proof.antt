@@ -21,7 +21,13 @@ abbrev μ-loop : tie.MeasureT-loop
 μ-loop b at1 at0 n ones1 ones0 before1₀ before0₀ i₀ before1 before0 i = n - 8 * i
 
 loop-holds : tie.Need-loop-holds Inv-loop μ-loop
-loop-holds c = (0, omega arith, omega (arith, bits-ones-le (c .before .args .b .now) (8 * c .before .args .at1) 0), omega (arith, bits-ones-le (c .before .args .b .now) (8 * c .before .args .at0) 0), step-none (c .before .args .b .now) (c .before .args .at1) (c .before .args .at0) (c .before .args .ones1) (c .before .args .ones0))
+loop-holds c = (
+  0,
+  omega arith,
+  omega (arith, bits-ones-le (c .before .args .b .now) (8 * c .before .args .at1) 0),
+  omega (arith, bits-ones-le (c .before .args .b .now) (8 * c .before .args .at0) 0),
+  step-none (c .before .args .b .now) (c .before .args .at1) (c .before .args .at0) (c .before .args .ones1) (c .before .args .ones0),
+)
 
 add-loop : tie.Need-add-loop Inv-loop μ-loop
 add-loop c = omega arith
@@ -54,7 +60,7 @@ word-in-step-requires c κs =
     let i = c .before .before .loop .i in
     let most1 = bits-ones-le b (8 * a .at1) (8 * i) in
     let most0 = bits-ones-le b (8 * a .at0) (8 * i) in
-    (omega arith, (omega arith, (omega arith, (omega arith, (omega arith, (omega arith, c .ones-without .ensures))))))
+    (omega arith, (omega arith, (omega arith, (omega arith, (omega arith, c .ones-without .ensures)))))
 
 returns : tie.Need-returns Inv-loop μ-loop
 returns c = λ all.
@@ -139,7 +145,7 @@ bytes-in-step-requires c κs =
     let i = c .before .loop .i in
     let most1 = bits-ones-le b (8 * a .at1) (8 * i) in
     let most0 = bits-ones-le b (8 * a .at0) (8 * i) in
-    (omega arith, (omega arith, (omega arith, (omega arith, (omega arith, (omega arith, omega arith))))))
+    (omega arith, (omega arith, (omega arith, (omega arith, (omega arith, omega arith)))))
 
 returns-2 : tie.Need-returns-2 Inv-loop μ-loop
 returns-2 c =

@@ -1,17 +1,31 @@
 -- `check_runs_samples::samples_ahead` meets its contract.
-use Prim.Native.Nat.{ℕ, _-_, _/_, _≤_, _<_}
+use mathlib.Core.Path.{sym, ap, _∙_, subst}
+use Prim.Native.Nat.{ℕ, _+_, _-_, _*_, _/_, _≤_, _<_}
 use native.Mathlib.Decide.{decLt}
 use native.Mathlib.Omega.{arith}
+use lib.ListN.{length}
+use borrow.Author.Needs.{needs}
+use Rattle.theory.specs.Layout.{wordAt}
 use Rattle.check_runs_samples.specs.Ahead.{Seen}
+use Rattle.check_runs_samples.proofs.Places.{sample-room}
 use Rattle.check_runs_samples.proofs.samples_ahead.Statement.{statement}
 use Rattle.check_runs_samples.proofs.samples_ahead.Tie as tie
 
 abbrev Inv-loop : tie.InvT-loop
-Inv-loop b samples1 samples0 before end m by to s₀ s =
+Inv-loop b before end by samples1 samples0 m to s₀ s =
     ((before - 1) / 64 ≤ s) × ((r : ℕ) → (before - 1) / 64 ≤ r → r < s → Seen b samples1 samples0 by r)
 
 abbrev μ-loop : tie.MeasureT-loop
-μ-loop b samples1 samples0 before end m by to s₀ s = to - s
+μ-loop b before end by samples1 samples0 m to s₀ s = to - s
+
+cast-samples1 : tie.Need-cast-samples1 Inv-loop μ-loop
+cast-samples1 c = search needs
+
+cast-samples0 : tie.Need-cast-samples0 Inv-loop μ-loop
+cast-samples0 c = search needs
+
+cast-m : tie.Need-cast-m Inv-loop μ-loop
+cast-m c = search needs
 
 returns : tie.Need-returns Inv-loop μ-loop
 returns c = tt
@@ -37,41 +51,25 @@ sub-s c = omega arith
 loop-holds : tie.Need-loop-holds Inv-loop μ-loop
 loop-holds c = (omega arith, λ q h g. absurd (omega arith))
 
-add-word : tie.Need-add-word Inv-loop μ-loop
-add-word c = omega arith
-
-mul-word : tie.Need-mul-word Inv-loop μ-loop
-mul-word c = omega arith
-
-mul-word-2 : tie.Need-mul-word-2 Inv-loop μ-loop
-mul-word-2 c = omega arith
-
-add-word-2 : tie.Need-add-word-2 Inv-loop μ-loop
-add-word-2 c = omega arith
+sample-at-requires : tie.Need-sample-at-requires Inv-loop μ-loop
+sample-at-requires c κs = (omega arith, omega arith)
 
 word-requires : tie.Need-word-requires Inv-loop μ-loop
-word-requires c κs = omega arith
+word-requires c κs = omega (arith, c .sample-at .ensures)
 
-add-word-3 : tie.Need-add-word-3 Inv-loop μ-loop
-add-word-3 c = omega arith
+add-sample-at : tie.Need-add-sample-at Inv-loop μ-loop
+add-sample-at c = omega arith
 
-add-word-4 : tie.Need-add-word-4 Inv-loop μ-loop
-add-word-4 c = omega arith
-
-mul-word-3 : tie.Need-mul-word-3 Inv-loop μ-loop
-mul-word-3 c = omega arith
-
-add-word-5 : tie.Need-add-word-5 Inv-loop μ-loop
-add-word-5 c = omega arith
-
-mul-word-4 : tie.Need-mul-word-4 Inv-loop μ-loop
-mul-word-4 c = omega arith
-
-add-word-6 : tie.Need-add-word-6 Inv-loop μ-loop
-add-word-6 c = omega arith
+sample-at-requires-2 : tie.Need-sample-at-requires-2 Inv-loop μ-loop
+sample-at-requires-2 c κs = (omega arith, omega arith)
 
 word-requires-2 : tie.Need-word-requires-2 Inv-loop μ-loop
-word-requires-2 c κs = omega arith
+word-requires-2 c κs =
+    let start = c .before .before .before .before .before .before .before .before .before .before .before in
+    let a = start .args in
+    let l = c .before .before .before .before .loop in
+    let few : 64 * (l .s + a .by) < a .layout .runs = omega arith in
+    subst (λ p. p + 4 ≤ length (a .b .now)) (sym (c .sample-at2 .ensures)) (sample-room (a .layout .«r0_samples») (a .layout .runs) (l .s + a .by) (length (a .b .now)) few (start .pre .0 .room))
 
 returns-3 : tie.Need-returns-3 Inv-loop μ-loop
 returns-3 c = tt
@@ -84,12 +82,15 @@ loop-less c = omega arith
 
 loop-again : tie.Need-loop-again Inv-loop μ-loop
 loop-again c =
-    let l = c .before .before .before .before .loop in
-    let a = c .before .before .before .before .before .before .before .before .args in (
+    let second = c .before in
+    let first = second .before .before in
+    let l = first .before .before .before .loop in
+    let ahead = second .word2 .ensures ∙ ap (wordAt _) (second .before .sample-at2 .ensures) in
+    let own = first .word .ensures ∙ ap (wordAt _) (first .before .sample-at .ensures) in (
       omega arith,
       λ r h g. elim (decLt r (l .s)) [
         | yes f ↦ l .inv .1 r h f
-        | no f ↦ (l .s, omega arith, omega arith, omega (arith, c .before .before .word .ensures, c .before .word2 .ensures))
+        | no f ↦ (l .s, omega arith, omega arith, omega (arith, own, ahead))
       ],
     )
 
@@ -104,6 +105,9 @@ samples-ahead-spec =
     (tie.spec
     Inv-loop
     μ-loop
+    cast-samples1
+    cast-samples0
+    cast-m
     returns
     add-to
     add-if2
@@ -112,17 +116,10 @@ samples-ahead-spec =
     returns-2
     sub-s
     loop-holds
-    add-word
-    mul-word
-    mul-word-2
-    add-word-2
+    sample-at-requires
     word-requires
-    add-word-3
-    add-word-4
-    mul-word-3
-    add-word-5
-    mul-word-4
-    add-word-6
+    add-sample-at
+    sample-at-requires-2
     word-requires-2
     returns-3
     add-s

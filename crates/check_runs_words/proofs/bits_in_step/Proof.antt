@@ -19,7 +19,12 @@ abbrev μ-loop : tie.MeasureT-loop
 μ-loop b at1 at0 n ones1 ones0 before1₀ before0₀ i₀ before1 before0 i = n - i
 
 loop-holds : tie.Need-loop-holds Inv-loop μ-loop
-loop-holds c = (omega arith, omega (arith, bits-ones-le (c .before .args .b .now) (8 * c .before .args .at1) 0), omega (arith, bits-ones-le (c .before .args .b .now) (8 * c .before .args .at0) 0), step-none (c .before .args .b .now) (c .before .args .at1) (c .before .args .at0) (c .before .args .ones1) (c .before .args .ones0))
+loop-holds c = (
+  omega arith,
+  omega (arith, bits-ones-le (c .before .args .b .now) (8 * c .before .args .at1) 0),
+  omega (arith, bits-ones-le (c .before .args .b .now) (8 * c .before .args .at0) 0),
+  step-none (c .before .args .b .now) (c .before .args .at1) (c .before .args .at0) (c .before .args .ones1) (c .before .args .ones0),
+)
 
 returns : tie.Need-returns Inv-loop μ-loop
 returns c = λ s. omega (arith, s (c .before .before .loop .i) (omega arith))
@@ -37,7 +42,12 @@ cast-before1 : tie.Need-cast-before1 Inv-loop μ-loop
 cast-before1 c = omega (arith, value-le _ _ (c .bit-at .ensures))
 
 add-before1 : tie.Need-add-before1 Inv-loop μ-loop
-add-before1 c = omega (arith, value-le _ _ (c .bit-at .ensures), bits-ones-le (c .before .before .before .before .before .args .b .now) (8 * c .before .before .before .before .before .args .at1) (c .before .before .before .loop .i))
+add-before1 c =
+    omega (
+      arith,
+      value-le _ _ (c .bit-at .ensures),
+      bits-ones-le (c .before .before .before .before .before .args .b .now) (8 * c .before .before .before .before .before .args .at1) (c .before .before .before .loop .i),
+    )
 
 mul-bit-at-2 : tie.Need-mul-bit-at-2 Inv-loop μ-loop
 mul-bit-at-2 c = omega arith
@@ -52,7 +62,13 @@ cast-before0 : tie.Need-cast-before0 Inv-loop μ-loop
 cast-before0 c = omega (arith, value-le _ _ (c .bit-at2 .ensures))
 
 add-before0 : tie.Need-add-before0 Inv-loop μ-loop
-add-before0 c = omega (arith, value-le _ _ (c .bit-at2 .ensures), bits-ones-le (c .before .before .before .before .before .before .args .b .now) (8 * c .before .before .before .before .before .before .args .at0) (c .before .before .before .before .loop .i))
+add-before0 c =
+    omega (
+      arith,
+      value-le _ _ (c .bit-at2 .ensures),
+      bits-ones-le (c .before .before .before .before .before .before .args .b .now) (8 * c .before .before .before .before .before .before .args .at0)
+          (c .before .before .before .before .loop .i),
+    )
 
 add-i : tie.Need-add-i Inv-loop μ-loop
 add-i c = omega arith

@@ -11,7 +11,9 @@ add-if1 : tie.Need-add-if1
 add-if1 c = omega (arith, bits-ones-le (c .before .args .b .now) (8 * c .before .args .at1) 8)
 
 returns : tie.Need-returns
-returns c = step-over (c .before .before .args .b .now) (c .before .before .args .at1) (c .before .before .args .at0) (c .before .before .args .ones1) (c .before .before .args .ones0) 8 (c .before .before .args .more) (c .before .before .pre .1 .1 .1 .1 .1 .1) (omega arith)
+returns c =
+    step-over (c .before .before .args .b .now) (c .before .before .args .at1) (c .before .before .args .at0) (c .before .before .args .ones1) (c .before .before .args .ones0) 8
+    (c .before .before .args .more) (c .before .before .pre .1 .1 .1 .1 .1) (omega arith)
 
 bits-in-step-requires : tie.Need-bits-in-step-requires
 bits-in-step-requires c κs = search needs

@@ -20,7 +20,12 @@ abbrev μ-loop : tie.MeasureT-loop
 μ-loop b at1 at0 n ones1 ones0 before1₀ before0₀ i₀ before1 before0 i = n - 8 * i
 
 loop-holds : tie.Need-loop-holds Inv-loop μ-loop
-loop-holds c = (omega arith, omega (arith, bits-ones-le (c .before .args .b .now) (8 * c .before .args .at1) 0), omega (arith, bits-ones-le (c .before .args .b .now) (8 * c .before .args .at0) 0), step-none (c .before .args .b .now) (c .before .args .at1) (c .before .args .at0) (c .before .args .ones1) (c .before .args .ones0))
+loop-holds c = (
+  omega arith,
+  omega (arith, bits-ones-le (c .before .args .b .now) (8 * c .before .args .at1) 0),
+  omega (arith, bits-ones-le (c .before .args .b .now) (8 * c .before .args .at0) 0),
+  step-none (c .before .args .b .now) (c .before .args .at1) (c .before .args .at0) (c .before .args .ones1) (c .before .args .ones0),
+)
 
 add-ones-in-byte : tie.Need-add-ones-in-byte Inv-loop μ-loop
 add-ones-in-byte c = omega arith
@@ -32,7 +37,12 @@ ones-in-byte-requires : tie.Need-ones-in-byte-requires Inv-loop μ-loop
 ones-in-byte-requires c κs = search needs
 
 cast-more : tie.Need-cast-more Inv-loop μ-loop
-cast-more c = omega (arith, whole-byte-run (c .before .before .before .before .before .args .b .now) (c .before .before .before .before .before .args .at1 + c .before .before .before .loop .i), bits-ones-le (c .before .before .before .before .before .args .b .now) (8 * (c .before .before .before .before .before .args .at1 + c .before .before .before .loop .i)) 8)
+cast-more c =
+    omega (
+      arith,
+      whole-byte-run (c .before .before .before .before .before .args .b .now) (c .before .before .before .before .before .args .at1 + c .before .before .before .loop .i),
+      bits-ones-le (c .before .before .before .before .before .args .b .now) (8 * (c .before .before .before .before .before .args .at1 + c .before .before .before .loop .i)) 8,
+    )
 
 add-byte-in-step : tie.Need-add-byte-in-step Inv-loop μ-loop
 add-byte-in-step c = omega arith
@@ -47,14 +57,18 @@ byte-in-step-requires c κs =
     let i = c .before .before .before .loop .i in
     let most1 = bits-ones-le b (8 * a .at1) (8 * i) in
     let most0 = bits-ones-le b (8 * a .at0) (8 * i) in
-    (omega arith, (omega arith, (omega arith, (omega arith, (omega arith, (omega arith, c .ones-in-byte .ensures ∙ whole-byte-run b (a .at1 + i)))))))
+    (omega arith, (omega arith, (omega arith, (omega arith, (omega arith, c .ones-in-byte .ensures ∙ whole-byte-run b (a .at1 + i))))))
 
 returns : tie.Need-returns Inv-loop μ-loop
 returns c = λ all.
     let a = c .before .before .before .before .before .before .before .args in
     let i = c .before .before .before .before .before .loop .i in
-    decides-missed (c .before .byte-in-step .result) (StepAt (a .b .now) (a .at1 + i) (a .at0 + i) 8 (c .before .before .before .before .before .loop .before1) (c .before .before .before .before .before .loop .before0)) (c .before .byte-in-step .ensures) (c .if1 .taken)
-    (step-part (a .b .now) (a .at1) (a .at0) (a .ones1) (a .ones0) i (c .before .before .before .before .before .loop .before1) (c .before .before .before .before .before .loop .before0) (c .before .before .before .before .before .loop .inv .1) (c .before .before .before .before .before .loop .inv .2) 8 (a .n) (omega arith) all)
+    decides-missed (c .before .byte-in-step .result)
+    (StepAt (a .b .now) (a .at1 + i) (a .at0 + i) 8 (c .before .before .before .before .before .loop .before1) (c .before .before .before .before .before .loop .before0))
+    (c .before .byte-in-step .ensures) (c .if1 .taken)
+    (step-part (a .b .now) (a .at1) (a .at0) (a .ones1) (a .ones0) i (c .before .before .before .before .before .loop .before1)
+    (c .before .before .before .before .before .loop .before0) (c .before .before .before .before .before .loop .inv .1) (c .before .before .before .before .before .loop .inv .2) 8
+    (a .n) (omega arith) all)
 
 add-before1 : tie.Need-add-before1 Inv-loop μ-loop
 add-before1 c =
@@ -73,7 +87,14 @@ ones-in-byte-requires-2 : tie.Need-ones-in-byte-requires-2 Inv-loop μ-loop
 ones-in-byte-requires-2 c κs = search needs
 
 cast-before0 : tie.Need-cast-before0 Inv-loop μ-loop
-cast-before0 c = omega (arith, whole-byte-run (c .before .before .before .before .before .before .before .before .before .args .b .now) (c .before .before .before .before .before .before .before .before .before .args .at0 + c .before .before .before .before .before .before .before .loop .i), bits-ones-le (c .before .before .before .before .before .before .before .before .before .args .b .now) (8 * (c .before .before .before .before .before .before .before .before .before .args .at0 + c .before .before .before .before .before .before .before .loop .i)) 8)
+cast-before0 c =
+    omega (
+      arith,
+      whole-byte-run (c .before .before .before .before .before .before .before .before .before .args .b .now)
+          (c .before .before .before .before .before .before .before .before .before .args .at0 + c .before .before .before .before .before .before .before .loop .i),
+      bits-ones-le (c .before .before .before .before .before .before .before .before .before .args .b .now)
+          (8 * (c .before .before .before .before .before .before .before .before .before .args .at0 + c .before .before .before .before .before .before .before .loop .i)) 8,
+    )
 
 add-before0 : tie.Need-add-before0 Inv-loop μ-loop
 add-before0 c =
@@ -97,8 +118,13 @@ loop-again c =
       omega arith,
       omega (arith, whole-byte-run b (a .at1 + i), ones-after b (a .at1) i 8, ap (λ m. ones (bitsFrom b (8 * a .at1) m)) next),
       omega (arith, whole-byte-run b (a .at0 + i), ones-after b (a .at0) i 8, ap (λ m. ones (bitsFrom b (8 * a .at0) m)) next),
-      step-join b (a .at1) (a .at0) (a .ones1) (a .ones0) i (c .before .before .before .before .before .before .before .loop .before1) (c .before .before .before .before .before .before .before .loop .before0) (c .before .before .before .before .before .before .before .loop .inv .1) (c .before .before .before .before .before .before .before .loop .inv .2) 8 (8 * (i + 1)) next (c .before .before .before .before .before .before .before .loop .inv .3)
-          (decides-held (c .before .before .before .byte-in-step .result) (StepAt b (a .at1 + i) (a .at0 + i) 8 (c .before .before .before .before .before .before .before .loop .before1) (c .before .before .before .before .before .before .before .loop .before0)) (c .before .before .before .byte-in-step .ensures) (c .before .before .if1 .left)),
+      step-join b (a .at1) (a .at0) (a .ones1) (a .ones0) i (c .before .before .before .before .before .before .before .loop .before1)
+          (c .before .before .before .before .before .before .before .loop .before0) (c .before .before .before .before .before .before .before .loop .inv .1)
+          (c .before .before .before .before .before .before .before .loop .inv .2) 8 (8 * (i + 1)) next (c .before .before .before .before .before .before .before .loop .inv .3)
+          (decides-held (c .before .before .before .byte-in-step .result)
+          (StepAt b (a .at1 + i) (a .at0 + i) 8 (c .before .before .before .before .before .before .before .loop .before1)
+          (c .before .before .before .before .before .before .before .loop .before0))
+          (c .before .before .before .byte-in-step .ensures) (c .before .before .if1 .left)),
     )
 
 add-bits-in-step : tie.Need-add-bits-in-step Inv-loop μ-loop
@@ -120,7 +146,7 @@ bits-in-step-requires c κs =
     let i = c .before .loop .i in
     let most1 = bits-ones-le b (8 * a .at1) (8 * i) in
     let most0 = bits-ones-le b (8 * a .at0) (8 * i) in
-    (omega arith, (omega arith, (omega arith, (omega arith, (omega arith, (omega arith, omega arith))))))
+    (omega arith, (omega arith, (omega arith, (omega arith, (omega arith, omega arith)))))
 
 returns-2 : tie.Need-returns-2 Inv-loop μ-loop
 returns-2 c =
@@ -128,9 +154,13 @@ returns-2 c =
     let b = a .b .now in
     let i = c .before .before .loop .i in
     let r = a .n - 8 * i in
-    decides-same (c .bits-in-step .result) (StepAt b (a .at1 + i) (a .at0 + i) r (c .before .before .loop .before1) (c .before .before .loop .before0)) (StepAt b (a .at1) (a .at0) (a .n) (a .ones1) (a .ones0))
-    (step-join b (a .at1) (a .at0) (a .ones1) (a .ones0) i (c .before .before .loop .before1) (c .before .before .loop .before0) (c .before .before .loop .inv .1) (c .before .before .loop .inv .2) r (a .n) (omega arith) (c .before .before .loop .inv .3))
-    (step-part b (a .at1) (a .at0) (a .ones1) (a .ones0) i (c .before .before .loop .before1) (c .before .before .loop .before0) (c .before .before .loop .inv .1) (c .before .before .loop .inv .2) r (a .n) (omega arith)) (c .bits-in-step .ensures)
+    decides-same (c .bits-in-step .result) (StepAt b (a .at1 + i) (a .at0 + i) r (c .before .before .loop .before1) (c .before .before .loop .before0))
+    (StepAt b (a .at1) (a .at0) (a .n) (a .ones1) (a .ones0))
+    (step-join b (a .at1) (a .at0) (a .ones1) (a .ones0) i (c .before .before .loop .before1) (c .before .before .loop .before0) (c .before .before .loop .inv .1)
+    (c .before .before .loop .inv .2) r (a .n) (omega arith) (c .before .before .loop .inv .3))
+    (step-part b (a .at1) (a .at0) (a .ones1) (a .ones0) i (c .before .before .loop .before1) (c .before .before .loop .before0) (c .before .before .loop .inv .1)
+    (c .before .before .loop .inv .2) r (a .n) (omega arith))
+    (c .bits-in-step .ensures)
 
 pub bytes-in-step-spec : {M : Type 1} → statement M
 bytes-in-step-spec =

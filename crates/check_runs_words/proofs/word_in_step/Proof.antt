@@ -11,7 +11,9 @@ add-if1 : tie.Need-add-if1
 add-if1 c = omega (arith, word-few (c .before .args .b .now) (c .before .args .at1) (c .before .args .at0), bits-ones-le (c .before .args .b .now) (8 * c .before .args .at1) 64)
 
 returns : tie.Need-returns
-returns c = step-over-word (c .before .before .args .b .now) (c .before .before .args .at1) (c .before .before .args .at0) (c .before .before .args .ones1) (c .before .before .args .ones0) (c .before .before .args .more) (c .before .before .pre .1 .1 .1 .1 .1 .1) (omega arith)
+returns c =
+    step-over-word (c .before .before .args .b .now) (c .before .before .args .at1) (c .before .before .args .at0) (c .before .before .args .ones1) (c .before .before .args .ones0)
+    (c .before .before .args .ahead) (c .before .before .pre .1 .1 .1 .1 .1) (omega arith)
 
 bytes-in-step-requires : tie.Need-bytes-in-step-requires
 bytes-in-step-requires c κs = search needs

@@ -27,10 +27,12 @@ put-before-requires c κs =
     let few = summed-few (c .before .before .before .args .table .now) (c .before .before .before .pre .1) (l .table) (l .sum) (l .w) (omega arith) (l .inv .2) in
     (l .inv .2 .0, (omega arith, (few, l .inv .2 .2)))
 
-first : (c : tie.After-put-before Inv-loop μ-loop) → let l = c .before .before .before .loop in Summed (c .before .before .before .before .args .table .now) (c .put-before .last .0) (c .put-before .result) (l .w + 1)
+first : (c : tie.After-put-before Inv-loop μ-loop)
+    → let l = c .before .before .before .loop in Summed (c .before .before .before .before .args .table .now) (c .put-before .last .0) (c .put-before .result) (l .w + 1)
 first c =
     let l = c .before .before .before .loop in
-    summed-more (c .before .before .before .before .args .table .now) (c .before .before .before .before .pre .1) (l .table) (l .sum) (l .w) (omega arith) (l .inv .2) (c .put-before .last .0) (c .put-before .result) (c .put-before .ensures .0) (c .put-before .ensures .1)
+    summed-more (c .before .before .before .before .args .table .now) (c .before .before .before .before .pre .1) (l .table) (l .sum) (l .w) (omega arith) (l .inv .2)
+    (c .put-before .last .0) (c .put-before .result) (c .put-before .ensures .0) (c .put-before .ensures .1)
 
 add-put-before : tie.Need-add-put-before Inv-loop μ-loop
 add-put-before c = omega arith
@@ -42,12 +44,16 @@ put-before-requires-2 c κs =
     let start = c .before .before .before .before .before in
     (s .0, (omega arith, (summed-few (start .args .table .now) (start .pre .1) (c .before .put-before .last .0) (c .before .put-before .result) (w + 1) (omega arith) s, s .2)))
 
-second : (c : tie.After-put-before2 Inv-loop μ-loop) → let l = c .before .before .before .before .before .loop in Summed (c .before .before .before .before .before .before .args .table .now) (c .put-before2 .last .0) (c .put-before2 .result) (l .w + 1 + 1)
+second : (c : tie.After-put-before2 Inv-loop μ-loop)
+    → let l = c .before .before .before .before .before .loop in
+    let a = c .before .before .before .before .before .before .args in
+    Summed (a .table .now) (c .put-before2 .last .0) (c .put-before2 .result) (l .w + 1 + 1)
 second c =
     let w = c .before .before .before .before .before .loop .w in
     let start = c .before .before .before .before .before .before in
     let one = c .before .before .put-before in
-    summed-more (start .args .table .now) (start .pre .1) (one .last .0) (one .result) (w + 1) (omega arith) (first (c .before .before)) (c .put-before2 .last .0) (c .put-before2 .result) (c .put-before2 .ensures .0) (c .put-before2 .ensures .1)
+    summed-more (start .args .table .now) (start .pre .1) (one .last .0) (one .result) (w + 1) (omega arith) (first (c .before .before)) (c .put-before2 .last .0)
+    (c .put-before2 .result) (c .put-before2 .ensures .0) (c .put-before2 .ensures .1)
 
 add-put-before-2 : tie.Need-add-put-before-2 Inv-loop μ-loop
 add-put-before-2 c = omega arith
@@ -71,7 +77,9 @@ loop-again c =
     let w = c .before .before .before .before .before .before .before .loop .w in
     let start = c .before .before .before .before .before .before .before .before in
     let s = second (c .before .before) in
-    let third = summed-more (start .args .table .now) (start .pre .1) (c .before .before .put-before2 .last .0) (c .before .before .put-before2 .result) (w + 1 + 1) (omega arith) s (c .put-before3 .last .0) (c .put-before3 .result) (rw (← two w) at (c .put-before3 .ensures .0)) (rw (← two w) at (c .put-before3 .ensures .1)) in
+    let third =
+    summed-more (start .args .table .now) (start .pre .1) (c .before .before .put-before2 .last .0) (c .before .before .put-before2 .result) (w + 1 + 1) (omega arith) s
+    (c .put-before3 .last .0) (c .put-before3 .result) (rw (← two w) at (c .put-before3 .ensures .0)) (rw (← two w) at (c .put-before3 .ensures .1)) in
     (omega arith, omega arith, rw (three w) at third)
 
 returns : tie.Need-returns Inv-loop μ-loop

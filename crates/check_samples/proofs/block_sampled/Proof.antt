@@ -20,8 +20,8 @@ mul-at c = search needs
 add-piece-sampled : tie.Need-add-piece-sampled
 add-piece-sampled c = search needs
 
-mul-piece-sampled : tie.Need-mul-piece-sampled
-mul-piece-sampled c = search needs
+mul-t10 : tie.Need-mul-t10
+mul-t10 c = search needs
 
 word-requires : tie.Need-word-requires
 word-requires c κs = omega arith
@@ -33,8 +33,8 @@ piece-sampled-requires : tie.Need-piece-sampled-requires
 piece-sampled-requires c κs =
     let a = c .before .before .args in
     let b = a .b .now in
-    let most = onesTo-le b (a .first) (4000 * a .j) in
-    let whole = onesTo-block b (a .first) (a .j) (a .n) (omega arith) in
+    let most = onesTo-le b (a .bits-block) (4000 * a .j) in
+    let whole = onesTo-block b (a .bits-block) (a .j) (a .n) (omega arith) in
     (omega arith, (omega arith, (omega arith, (omega arith, (omega arith, (omega arith, (omega arith, omega arith)))))))
 
 returns : tie.Need-returns
@@ -43,8 +43,9 @@ returns c =
     let b = a .b .now in
     let k = c .before .word .result in
     let e = c .before .word .ensures ∙ c .before .before .before .pre .1 .1 .1 .1 .1 .1 .1 in
-    decides-same (c .piece-sampled .result) (PieceSampled b (a .from) (512 * (a .first + a .j) + 4) (a .n) (4000 * a .j) k) (SampledWithin b (a .from) (a .first) (4000 * a .j) (4000 * a .j + a .n))
-    (sampled-block b (a .from) (a .first) (a .j) (a .n) k (omega arith) e) (block-sampled b (a .from) (a .first) (a .j) (a .n) k (omega arith) e) (c .piece-sampled .ensures)
+    decides-same (c .piece-sampled .result) (PieceSampled b (a .samples) (512 * (a .bits-block + a .j) + 4) (a .n) (4000 * a .j) k)
+    (SampledWithin b (a .samples) (a .bits-block) (4000 * a .j) (4000 * a .j + a .n))
+    (sampled-block b (a .samples) (a .bits-block) (a .j) (a .n) k (omega arith) e) (block-sampled b (a .samples) (a .bits-block) (a .j) (a .n) k (omega arith) e) (c .piece-sampled .ensures)
 
 pub block-sampled-spec : {M : Type 1} → statement M
 block-sampled-spec =
@@ -53,7 +54,7 @@ block-sampled-spec =
     add-at
     mul-at
     add-piece-sampled
-    mul-piece-sampled
+    mul-t10
     word-requires
     cast-piece-sampled
     piece-sampled-requires

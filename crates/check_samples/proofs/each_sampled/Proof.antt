@@ -12,11 +12,11 @@ use Rattle.check_samples.proofs.each_sampled.Statement.{statement}
 use Rattle.check_samples.proofs.each_sampled.Tie as tie
 
 abbrev Inv-loop : tie.InvT-loop
-Inv-loop b from at n i k end table s₀ p₀ s p =
-    (k ≤ 64 * s) × (64 * s < end + 64) × (p ≡ samplePlace from s) × (end ≤ k + 4000) × ((q : ℕ) → q < s → NumberSampled b from at n i k q)
+Inv-loop b samples piece k end table s₀ p₀ s p =
+    (k ≤ 64 * s) × (64 * s < end + 64) × (p ≡ samplePlace samples s) × (end ≤ k + 4000) × ((q : ℕ) → q < s → NumberSampled b samples (piece .at) (piece .bits) (piece .earlier) k q)
 
 abbrev μ-loop : tie.MeasureT-loop
-μ-loop b from at n i k end table s₀ p₀ s p = end - 64 * s
+μ-loop b samples piece k end table s₀ p₀ s p = end - 64 * s
 
 add-s : tie.Need-add-s Inv-loop μ-loop
 add-s c = omega arith
@@ -36,8 +36,8 @@ add-p-2 c = omega arith
 loop-holds : tie.Need-loop-holds Inv-loop μ-loop
 loop-holds c =
     let a = c .before .args in
-    let most = bits-ones-le (a .b .now) (8 * a .at) (a .n) in
-    (omega arith, omega arith, refl, omega arith, none-before (a .b .now) (a .from) (a .at) (a .n) (a .i) (a .k))
+    let most = bits-ones-le (a .b .now) (8 * a .piece .at) (a .piece .bits) in
+    (omega arith, omega arith, refl, omega arith, none-before (a .b .now) (a .samples) (a .piece .at) (a .piece .bits) (a .piece .earlier) (a .k))
 
 mul-loop : tie.Need-mul-loop Inv-loop μ-loop
 mul-loop c = omega arith
@@ -60,8 +60,9 @@ returns : tie.Need-returns Inv-loop μ-loop
 returns c = λ all.
     let a = c .before .before .before .before .before .args in
     let l = c .before .before .before .loop in
-    decides-missed (c .before .sample-right .result) (NamesOne (a .b .now) (a .at) (a .n) (a .i) (64 * l .s + 1 - a .k) (wordAt (a .b .now) (l .p))) (c .before .sample-right .ensures) (c .if1 .taken)
-    (λ p h e d. ap (wordAt (a .b .now)) (l .inv .2) ∙ piece-named (a .b .now) (a .from) (a .at) (a .n) (a .i) (a .k) (l .s) (l .inv .0) all p h e d)
+    decides-missed (c .before .sample-right .result) (NamesOne (a .b .now) (a .piece .at) (a .piece .bits) (a .piece .earlier) (64 * l .s + 1 - a .k) (wordAt (a .b .now) (l .p)))
+    (c .before .sample-right .ensures) (c .if1 .taken)
+    (λ p h e d. ap (wordAt (a .b .now)) (l .inv .2) ∙ piece-named (a .b .now) (a .samples) (a .piece .at) (a .piece .bits) (a .piece .earlier) (a .k) (l .s) (l .inv .0) all p h e d)
 
 next-sample-requires : tie.Need-next-sample-requires Inv-loop μ-loop
 next-sample-requires c κs = omega arith
@@ -76,15 +77,20 @@ loop-again : tie.Need-loop-again Inv-loop μ-loop
 loop-again c =
     let a = c .before .before .before .before .before .before .args in
     let l = c .before .before .before .before .loop in
-    let this = decides-held (c .before .before .sample-right .result) (NamesOne (a .b .now) (a .at) (a .n) (a .i) (64 * l .s + 1 - a .k) (wordAt (a .b .now) (l .p))) (c .before .before .sample-right .ensures) (c .before .if1 .left) in
-    let right = number-named (a .b .now) (a .from) (a .at) (a .n) (a .i) (a .k) (l .s) (l .inv .0) (λ p h e d. ap (wordAt (a .b .now)) (sym (l .inv .2)) ∙ this p h e d) in
-    (omega arith, omega arith, c .next-sample .ensures (a .from) (l .s) (l .inv .2), l .inv .3, below-more _ _ (l .inv .4) right)
+    let this =
+    decides-held (c .before .before .sample-right .result)
+    (NamesOne (a .b .now) (a .piece .at) (a .piece .bits) (a .piece .earlier) (64 * l .s + 1 - a .k) (wordAt (a .b .now) (l .p))) (c .before .before .sample-right .ensures)
+    (c .before .if1 .left) in
+    let right =
+    number-named (a .b .now) (a .samples) (a .piece .at) (a .piece .bits) (a .piece .earlier) (a .k) (l .s) (l .inv .0)
+    (λ p h e d. ap (wordAt (a .b .now)) (sym (l .inv .2)) ∙ this p h e d) in
+    (omega arith, omega arith, c .next-sample .ensures (a .samples) (l .s) (l .inv .2), l .inv .3, below-more _ _ (l .inv .4) right)
 
 returns-2 : tie.Need-returns-2 Inv-loop μ-loop
 returns-2 c =
     let a = c .before .before .before .args in
     let l = c .before .loop in
-    numbers-piece (a .b .now) (a .from) (a .at) (a .n) (a .i) (a .k) (l .s) (a .end) (c .before .before .before .pre .1 .1 .1 .1 .1 .0) (omega arith) (l .inv .4)
+    numbers-piece (a .b .now) (a .samples) (a .piece .at) (a .piece .bits) (a .piece .earlier) (a .k) (l .s) (a .end) (c .before .before .before .pre .1 .1 .1 .1 .1 .0) (omega arith) (l .inv .4)
 
 pub each-sampled-spec : {M : Type 1} → statement M
 each-sampled-spec =

@@ -22,8 +22,8 @@ mul-at c = search needs
 add-full-piece-right : tie.Need-add-full-piece-right
 add-full-piece-right c = search needs
 
-mul-full-piece-right : tie.Need-mul-full-piece-right
-mul-full-piece-right c = search needs
+mul-t9 : tie.Need-mul-t9
+mul-t9 c = search needs
 
 word-requires : tie.Need-word-requires
 word-requires c κs = omega arith
@@ -34,8 +34,8 @@ cast-full-piece-right c = search needs
 full-piece-right-requires : tie.Need-full-piece-right-requires
 full-piece-right-requires c κs =
     let a = c .before .before .args in
-    let most = onesTo-le (a .b .now) (a .first) (4000 * a .j) in
-    (omega arith, (omega arith, (omega arith, (omega arith, (omega arith, omega arith)))))
+    let most = onesTo-le (a .b .now) (a .bits-block) (4000 * a .j) in
+    (omega arith, (omega arith, (omega arith, (omega arith, (omega arith, (omega arith, omega arith))))))
 
 returns : tie.Need-returns
 returns c =
@@ -43,11 +43,12 @@ returns c =
     let b = a .b .now in
     let k = c .before .word .result in
     let e = c .before .word .ensures ∙ c .before .before .before .pre .1 .1 .1 .1 .1 in
-    let at = 512 * (a .first + a .j) + 4 in
-    let whole = onesTo-block b (a .first) (a .j) 4000 (omega arith) in
-    decides-same (c .full-piece-right .result) ((a .end ≡ k + ones (bitsFrom b (8 * at) 4000)) × PieceSampled b (a .from) at 4000 (4000 * a .j) k) (BlockRight b (a .from) (a .first) (a .j) (a .end))
-    (λ s. (omega (arith, s .0), sampled-block b (a .from) (a .first) (a .j) 4000 k (omega arith) e (s .1)))
-    (λ s. (omega (arith, s .0), block-sampled b (a .from) (a .first) (a .j) 4000 k (omega arith) e (s .1))) (c .full-piece-right .ensures)
+    let at = 512 * (a .bits-block + a .j) + 4 in
+    let whole = onesTo-block b (a .bits-block) (a .j) 4000 (omega arith) in
+    decides-same (c .full-piece-right .result) ((a .end ≡ k + ones (bitsFrom b (8 * at) 4000)) × PieceSampled b (a .samples) at 4000 (4000 * a .j) k)
+    (BlockRight b (a .samples) (a .bits-block) (a .j) (a .end))
+    (λ s. (omega (arith, s .0), sampled-block b (a .samples) (a .bits-block) (a .j) 4000 k (omega arith) e (s .1)))
+    (λ s. (omega (arith, s .0), block-sampled b (a .samples) (a .bits-block) (a .j) 4000 k (omega arith) e (s .1))) (c .full-piece-right .ensures)
 
 pub full-block-right-spec : {M : Type 1} → statement M
 full-block-right-spec =
@@ -56,7 +57,7 @@ full-block-right-spec =
     add-at
     mul-at
     add-full-piece-right
-    mul-full-piece-right
+    mul-t9
     word-requires
     cast-full-piece-right
     full-piece-right-requires

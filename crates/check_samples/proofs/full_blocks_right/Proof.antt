@@ -13,10 +13,10 @@ use Rattle.check_samples.proofs.full_blocks_right.Statement.{statement}
 use Rattle.check_samples.proofs.full_blocks_right.Tie as tie
 
 abbrev Inv-loop : tie.InvT-loop
-Inv-loop b from m first n last j₀ j = (j ≤ (n - 1) / 4000) × CountedTo b first (j + 1) × (onesTo b first (4000 * j) ≤ m) × SampledWithin b from first 0 (4000 * j)
+Inv-loop b samples m bits-block n last j₀ j = (j ≤ (n - 1) / 4000) × CountedTo b bits-block (j + 1) × (onesTo b bits-block (4000 * j) ≤ m) × SampledWithin b samples bits-block 0 (4000 * j)
 
 abbrev μ-loop : tie.MeasureT-loop
-μ-loop b from m first n last j₀ j = (n - 1) / 4000 - j
+μ-loop b samples m bits-block n last j₀ j = (n - 1) / 4000 - j
 
 mul-word : tie.Need-mul-word Inv-loop μ-loop
 mul-word c = omega arith
@@ -27,7 +27,14 @@ word-requires c κs = omega arith
 returns : tie.Need-returns Inv-loop μ-loop
 returns c = λ right.
     let a = c .before .before .before .args in
-    c .if1 .taken (omega (arith, c .before .word .ensures, ap (wordAt (a .b .now)) (let e : 512 * (a .first + 0) ≡ 512 * a .first = omega arith in e), right .counted 0 (omega arith), onesTo-le (a .b .now) (a .first) (4000 * 0)))
+    c .if1 .taken
+    (omega (
+      arith,
+      c .before .word .ensures,
+      ap (wordAt (a .b .now)) (let e : 512 * (a .bits-block + 0) ≡ 512 * a .bits-block = omega arith in e),
+      right .counted 0 (omega arith),
+      onesTo-le (a .b .now) (a .bits-block) (4000 * 0),
+    ))
 
 sub-last : tie.Need-sub-last Inv-loop μ-loop
 sub-last c = omega arith
@@ -36,10 +43,10 @@ loop-holds : tie.Need-loop-holds Inv-loop μ-loop
 loop-holds c =
     let a = c .before .before .before .args in
     let b = a .b .now in
-    let none = onesTo-le b (a .first) (4000 * 0) in
-    let here : wordAt b (512 * (a .first + 0)) ≡ onesTo b (a .first) (4000 * 0) =
-    omega (arith, c .before .word .ensures, c .if1 .left, ap (wordAt b) (let e : 512 * (a .first + 0) ≡ 512 * a .first = omega arith in e)) in
-    (omega arith, counted-more b (a .first) 0 (λ k h. absurd (omega arith)) here, omega arith, λ p h g. absurd (omega arith))
+    let none = onesTo-le b (a .bits-block) (4000 * 0) in
+    let here : wordAt b (512 * (a .bits-block + 0)) ≡ onesTo b (a .bits-block) (4000 * 0) =
+    omega (arith, c .before .word .ensures, c .if1 .left, ap (wordAt b) (let e : 512 * (a .bits-block + 0) ≡ 512 * a .bits-block = omega arith in e)) in
+    (omega arith, counted-more b (a .bits-block) 0 (λ k h. absurd (omega arith)) here, omega arith, λ p h g. absurd (omega arith))
 
 add-word : tie.Need-add-word Inv-loop μ-loop
 add-word c = omega arith
@@ -55,16 +62,16 @@ word-requires-2 c κs = omega arith
 
 -- what the next block has
 next : (c : tie.After-word2 Inv-loop μ-loop) → let a = c .before .before .before .before .before .before .args in
-    c .word2 .result ≡ wordAt (a .b .now) (512 * (a .first + (c .before .before .loop .j + 1)))
+    c .word2 .result ≡ wordAt (a .b .now) (512 * (a .bits-block + (c .before .before .loop .j + 1)))
 next c =
     let a = c .before .before .before .before .before .before .args in
-    c .word2 .ensures ∙ ap (wordAt (a .b .now)) (let e : 512 * (a .first + c .before .before .loop .j + 1) ≡ 512 * (a .first + (c .before .before .loop .j + 1)) = omega arith in e)
+    c .word2 .ensures ∙ ap (wordAt (a .b .now)) (let e : 512 * (a .bits-block + c .before .before .loop .j + 1) ≡ 512 * (a .bits-block + (c .before .before .loop .j + 1)) = omega arith in e)
 
 returns-2 : tie.Need-returns-2 Inv-loop μ-loop
 returns-2 c = λ right.
     let a = c .before .before .before .before .before .before .before .args in
     let j = c .before .before .before .loop .j in
-    omega (arith, next (c .before), right .counted (j + 1) (omega arith), onesTo-mono (a .b .now) (a .first) (4000 * (j + 1)) (4000 * ((a .n - 1) / 4000)) (omega arith), right .few)
+    omega (arith, next (c .before), right .counted (j + 1) (omega arith), onesTo-mono (a .b .now) (a .bits-block) (4000 * (j + 1)) (4000 * ((a .n - 1) / 4000)) (omega arith), right .few)
 
 cast-full-block-right : tie.Need-cast-full-block-right Inv-loop μ-loop
 cast-full-block-right c = omega arith
@@ -78,8 +85,11 @@ returns-3 : tie.Need-returns-3 Inv-loop μ-loop
 returns-3 c = λ right.
     let a = c .before .before .before .before .before .before .before .before .before .args in
     let j = c .before .before .before .before .before .loop .j in
-    decides-missed (c .before .full-block-right .result) (BlockRight (a .b .now) (a .from) (a .first) j (c .before .before .before .word2 .result)) (c .before .full-block-right .ensures) (c .if3 .taken)
-    (next (c .before .before .before) ∙ right .counted (j + 1) (omega arith) ∙ ap (onesTo (a .b .now) (a .first)) (let e : 4000 * (j + 1) ≡ 4000 * j + 4000 = omega arith in e), λ p h g. right .sampled p (omega arith) (omega arith))
+    decides-missed (c .before .full-block-right .result) (BlockRight (a .b .now) (a .samples) (a .bits-block) j (c .before .before .before .word2 .result))
+    (c .before .full-block-right .ensures) (c .if3 .taken) (
+      next (c .before .before .before) ∙ right .counted (j + 1) (omega arith) ∙ ap (onesTo (a .b .now) (a .bits-block)) (let e : 4000 * (j + 1) ≡ 4000 * j + 4000 = omega arith in e),
+      λ p h g. right .sampled p (omega arith) (omega arith),
+    )
 
 add-j : tie.Need-add-j Inv-loop μ-loop
 add-j c = omega arith
@@ -93,12 +103,14 @@ loop-again c =
     let b = a .b .now in
     let l = c .before .before .before .before .before .loop in
     let j = l .j in
-    let this = decides-held (c .before .full-block-right .result) (BlockRight b (a .from) (a .first) j (c .before .before .before .word2 .result)) (c .before .full-block-right .ensures) (c .if3 .left) in
-    let same = ap (onesTo b (a .first)) (let e : 4000 * (j + 1) ≡ 4000 * j + 4000 = omega arith in e) in (
+    let this =
+    decides-held (c .before .full-block-right .result) (BlockRight b (a .samples) (a .bits-block) j (c .before .before .before .word2 .result))
+    (c .before .full-block-right .ensures) (c .if3 .left) in
+    let same = ap (onesTo b (a .bits-block)) (let e : 4000 * (j + 1) ≡ 4000 * j + 4000 = omega arith in e) in (
       omega arith,
-      counted-more b (a .first) (j + 1) (l .inv .1) (sym (next (c .before .before .before)) ∙ this .0 ∙ sym same),
+      counted-more b (a .bits-block) (j + 1) (l .inv .1) (sym (next (c .before .before .before)) ∙ this .0 ∙ sym same),
       omega (arith, this .0, same),
-      λ p h g. within-join (SampledAt b (a .from) (a .first)) 0 (4000 * j) (4000 * j + 4000) (l .inv .3) (this .1) p h (omega arith),
+      λ p h g. within-join (SampledAt b (a .samples) (a .bits-block)) 0 (4000 * j) (4000 * j + 4000) (l .inv .3) (this .1) p h (omega arith),
     )
 
 returns-4 : tie.Need-returns-4 Inv-loop μ-loop
@@ -108,7 +120,7 @@ returns-4 c =
     let e : l .j ≡ (a .n - 1) / 4000 = omega arith in
     record {
       counted = λ k h. l .inv .1 k (omega arith);
-      few = omega (arith, l .inv .2, ap (λ j. onesTo (a .b .now) (a .first) (4000 * j)) e);
+      few = omega (arith, l .inv .2, ap (λ j. onesTo (a .b .now) (a .bits-block) (4000 * j)) e);
       sampled = λ p h g. l .inv .3 p h (omega arith);
     }
 

@@ -1,6 +1,6 @@
 -- `check_samples::full_piece_right` meets its contract.
 use borrow.Author.Needs.{needs}
-use mathlib.Core.Path.{_≡_}
+use mathlib.Core.Path.{_≡_, ap}
 use Prim.Native.Nat.{_+_, _*_, _≤_}
 use native.Mathlib.Omega.{arith}
 use lib.ListN.{getD}
@@ -21,21 +21,21 @@ add-up-requires : tie.Need-add-up-requires
 add-up-requires c κs =
     let a = c .before .before .before .before .args in
     let made = c .before .count-words in
-    (made .ensures .0, counts-few (a .b .now) (a .at) (made .last .1 .1 .0) (made .ensures .1))
+    (made .ensures .0, counts-few (a .b .now) (a .piece .at) (made .last .1 .1 .0) (made .ensures .1))
 
 array-read-if1 : tie.Need-array-read-if1
 array-read-if1 c = search needs
 
-counts : (c : tie.After-add-up) → CountsBefore (c .before .before .before .before .before .args .b .now) (c .before .before .before .before .before .args .at) (c .add-up .last .0)
+counts : (c : tie.After-add-up) → CountsBefore (c .before .before .before .before .before .args .b .now) (c .before .before .before .before .before .args .piece .at) (c .add-up .last .0)
 counts c =
     let a = c .before .before .before .before .before .args in
     let made = c .before .before .count-words in
-    counts-before (a .b .now) (a .at) (made .last .1 .1 .0) (made .ensures .1) (c .add-up .last .0) (c .add-up .ensures)
+    counts-before (a .b .now) (a .piece .at) (made .last .1 .1 .0) (made .ensures .1) (c .add-up .last .0) (c .add-up .ensures)
 
 few : (c : tie.After-add-up) → getD (c .add-up .last .0) 62 0 ≤ 3968
 few c =
     let a = c .before .before .before .before .before .args in
-    omega (arith, counts c 62 (omega arith), bits-ones-le (a .b .now) (8 * a .at) 3968)
+    omega (arith, counts c 62 (omega arith), bits-ones-le (a .b .now) (8 * a .piece .at) 3968)
 
 cast-if1 : tie.Need-cast-if1
 cast-if1 c = omega (arith, few c)
@@ -50,10 +50,12 @@ ones-from-requires : tie.Need-ones-from-requires
 ones-from-requires c κs = search needs
 
 whole : (c : tie.After-ones-from) → let a = c .before .before .before .before .before .before .args in
-    getD (c .before .add-up .last .0) 62 0 + c .ones-from .result ≡ ones (bitsFrom (a .b .now) (8 * a .at) 4000)
+    getD (c .before .add-up .last .0) 62 0 + c .ones-from .result ≡ ones (bitsFrom (a .b .now) (8 * a .piece .at) (a .piece .bits))
 whole c =
-    let a = c .before .before .before .before .before .before .args in
-    omega (arith, counts (c .before) 62 (omega arith), c .ones-from .ensures, ones-after (a .b .now) (a .at) 496 32)
+    let s = c .before .before .before .before .before .before in
+    let a = s .args in
+    let all = ap (λ n. ones (bitsFrom (a .b .now) (8 * a .piece .at) n)) (s .pre .1 .0) in
+    omega (arith, counts (c .before) 62 (omega arith), c .ones-from .ensures, ones-after (a .b .now) (a .piece .at) 496 32, all)
 
 cast-if1-2 : tie.Need-cast-if1-2
 cast-if1-2 c = search needs
@@ -61,7 +63,7 @@ cast-if1-2 c = search needs
 add-if1-2 : tie.Need-add-if1-2
 add-if1-2 c =
     let a = c .before .before .before .before .before .before .args in
-    omega (arith, few (c .before), whole c, bits-ones-le (a .b .now) (8 * a .at) 4000)
+    omega (arith, few (c .before), whole c, bits-ones-le (a .b .now) (8 * a .piece .at) (a .piece .bits))
 
 returns : tie.Need-returns
 returns c = λ p. c .if1 .taken (omega (arith, whole (c .before), p .0))
@@ -74,9 +76,9 @@ each-sampled-requires c κs =
 returns-2 : tie.Need-returns-2
 returns-2 c =
     let a = c .before .before .before .before .before .before .before .before .before .args in
-    let e : a .end ≡ a .k + ones (bitsFrom (a .b .now) (8 * a .at) 4000) = omega (arith, whole (c .before .before .before), c .before .before .if1 .left) in
-    decides-same (c .each-sampled .result) (PieceSampled (a .b .now) (a .from) (a .at) 4000 (a .i) (a .k))
-    ((a .end ≡ a .k + ones (bitsFrom (a .b .now) (8 * a .at) 4000)) × PieceSampled (a .b .now) (a .from) (a .at) 4000 (a .i) (a .k))
+    let e : a .end ≡ a .k + ones (bitsFrom (a .b .now) (8 * a .piece .at) (a .piece .bits)) = omega (arith, whole (c .before .before .before), c .before .before .if1 .left) in
+    decides-same (c .each-sampled .result) (PieceSampled (a .b .now) (a .samples) (a .piece .at) (a .piece .bits) (a .piece .earlier) (a .k))
+    ((a .end ≡ a .k + ones (bitsFrom (a .b .now) (8 * a .piece .at) (a .piece .bits))) × PieceSampled (a .b .now) (a .samples) (a .piece .at) (a .piece .bits) (a .piece .earlier) (a .k))
     (λ s. (e, s)) (λ p. p .1) (c .each-sampled .ensures)
 
 pub full-piece-right-spec : {M : Type 1} → statement M

@@ -12,14 +12,14 @@ add-up-requires : tie.Need-add-up-requires
 add-up-requires c κs =
     let a = c .before .before .before .before .args in
     let made = c .before .count-words in
-    (made .ensures .0, counts-few (a .b .now) (a .at) (made .last .1 .1 .0) (made .ensures .1))
+    (made .ensures .0, counts-few (a .b .now) (a .piece .at) (made .last .1 .1 .0) (made .ensures .1))
 
 each-sampled-requires : tie.Need-each-sampled-requires
 each-sampled-requires c κs =
     let s = c .before .before .before .before .before .before in
     let a = s .args in
     let made = c .before .before .before .count-words in
-    let before = counts-before (a .b .now) (a .at) (made .last .1 .1 .0) (made .ensures .1) (c .before .add-up .last .0) (c .before .add-up .ensures) in
+    let before = counts-before (a .b .now) (a .piece .at) (made .last .1 .1 .0) (made .ensures .1) (c .before .add-up .last .0) (c .before .add-up .ensures) in
     (omega arith, (omega arith, (omega arith, (omega arith, (omega arith, (s .pre .1 .1 .1 .1 .1 .0, (omega arith, (omega arith, before))))))))
 
 returns : tie.Need-returns

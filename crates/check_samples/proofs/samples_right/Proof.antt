@@ -29,7 +29,7 @@ block-sampled-requires c κs =
     let s = c .before in
     let a = s .args in
     let j = (a .n - 1) / 4000 in
-    let end = s .pre .1 .1 .0 ∙ ap (onesTo (a .b .now) (a .first)) (let e : a .n ≡ 4000 * j + (a .n - 4000 * j) = omega arith in e) in
+    let end = s .pre .1 .1 .0 ∙ ap (onesTo (a .b .now) (a .bits-block)) (let e : a .n ≡ 4000 * j + (a .n - 4000 * j) = omega arith in e) in
     (omega arith, (omega arith, (omega arith, (omega arith, (end, (omega arith, (omega arith, s .pre .1 .1 .1 .1 .1 .1 .1 .counted j (omega arith))))))))
 
 returns : tie.Need-returns
@@ -39,11 +39,14 @@ returns c =
     let b = a .b .now in
     let j = (a .n - 1) / 4000 in
     λ all.
-    decides-missed (c .before .block-sampled .result) (SampledWithin b (a .from) (a .first) (4000 * j) (4000 * j + (a .n - 4000 * j))) (c .before .block-sampled .ensures) (c .if1 .taken)
-    (λ p h g. sampled-within b (a .from) (a .first) (a .n) (a .m) (s .pre .1 .1 .0) all p (omega arith) (omega arith))
+    decides-missed (c .before .block-sampled .result) (SampledWithin b (a .samples) (a .bits-block) (4000 * j) (4000 * j + (a .n - 4000 * j))) (c .before .block-sampled .ensures) (c .if1 .taken)
+    (λ p h g. sampled-within b (a .samples) (a .bits-block) (a .n) (a .m) (s .pre .1 .1 .0) all p (omega arith) (omega arith))
 
 words-zero-requires : tie.Need-words-zero-requires
-words-zero-requires c κs = (omega (arith, onesTo-le (c .before .before .before .args .b .now) (c .before .before .before .args .first) (c .before .before .before .args .n)), (omega arith, omega arith))
+words-zero-requires c κs = (
+  omega (arith, onesTo-le (c .before .before .before .args .b .now) (c .before .before .before .args .bits-block) (c .before .before .before .args .n)),
+  (omega arith, omega arith),
+)
 
 returns-2 : tie.Need-returns-2
 returns-2 c =
@@ -52,11 +55,13 @@ returns-2 c =
     let b = a .b .now in
     let count = s .pre .1 .1 .0 in
     let j = (a .n - 1) / 4000 in
-    let this = decides-held (c .before .before .block-sampled .result) (SampledWithin b (a .from) (a .first) (4000 * j) (4000 * j + (a .n - 4000 * j))) (c .before .before .block-sampled .ensures) (c .before .if1 .left) in
-    let all : SampledWithin b (a .from) (a .first) 0 (a .n) =
-    λ p h g. within-join (SampledAt b (a .from) (a .first)) 0 (4000 * j) (4000 * j + (a .n - 4000 * j)) (s .pre .1 .1 .1 .1 .1 .1 .1 .sampled) this p h (omega arith) in
-    decides-same (c .words-zero .result) (RestZero b (a .from) (a .m)) (Sampled b (a .from) (a .m) (stringIn b (a .first) 0 (a .n)))
-    (sampled b (a .from) (a .first) (a .n) (a .m) count all) (sampled-rest b (a .from) (a .first) (a .n) (a .m) count) (c .words-zero .ensures)
+    let this =
+    decides-held (c .before .before .block-sampled .result) (SampledWithin b (a .samples) (a .bits-block) (4000 * j) (4000 * j + (a .n - 4000 * j)))
+    (c .before .before .block-sampled .ensures) (c .before .if1 .left) in
+    let all : SampledWithin b (a .samples) (a .bits-block) 0 (a .n) =
+    λ p h g. within-join (SampledAt b (a .samples) (a .bits-block)) 0 (4000 * j) (4000 * j + (a .n - 4000 * j)) (s .pre .1 .1 .1 .1 .1 .1 .1 .sampled) this p h (omega arith) in
+    decides-same (c .words-zero .result) (RestZero b (a .samples) (a .m)) (Sampled b (a .samples) (a .m) (stringIn b (a .bits-block) 0 (a .n)))
+    (sampled b (a .samples) (a .bits-block) (a .n) (a .m) count all) (sampled-rest b (a .samples) (a .bits-block) (a .n) (a .m) count) (c .words-zero .ensures)
 
 pub samples-right-spec : {M : Type 1} → statement M
 samples-right-spec =

@@ -30,7 +30,8 @@ returns : tie.Need-returns
 returns c =
     let a = c .before .before .before .before .before .args in
     let r = c .before .before .before .block-sums .result in
-    wrong-first (a .b .now) (a .i) (r .s) (r .t) (c .before .before .before .before .before .pre .0) (omega arith) (omega arith) (c .before .before .before .block-sums .ensures) (λ e. c .if1 .taken (c .before .before .word .ensures ∙ e))
+    wrong-first (a .b .now) (a .i) (r .s) (r .t) (c .before .before .before .before .before .pre .0) (omega arith) (omega arith) (c .before .before .before .block-sums .ensures)
+    (λ e. c .if1 .taken (c .before .before .word .ensures ∙ e))
 
 mul-word-2 : tie.Need-mul-word-2
 mul-word-2 c = search needs
@@ -47,7 +48,8 @@ returns-2 c =
     let r = c .before .before .before .before .before .block-sums .result in
     let bytes : AreBytes (a .b .now) = λ k l. omega (arith, c .before .before .before .before .before .before .shared-slice-known .given k) in
     ap (λ w. eqb w (r .t)) (c .before .word2 .ensures)
-    ∙ right-second (a .b .now) (a .i) (r .s) (r .t) (c .before .before .before .before .before .before .before .pre .0) (omega arith) (omega arith) (c .before .before .before .before .before .block-sums .ensures) bytes (sym (c .before .before .before .before .word .ensures) ∙ c .before .before .if1 .left)
+    ∙ right-second (a .b .now) (a .i) (r .s) (r .t) (c .before .before .before .before .before .before .before .pre .0) (omega arith) (omega arith)
+    (c .before .before .before .before .before .block-sums .ensures) bytes (sym (c .before .before .before .before .word .ensures) ∙ c .before .before .if1 .left)
 
 pub sums-right-spec : {M : Type 1} → statement M
 sums-right-spec =

@@ -30,13 +30,13 @@ loop-holds c =
     let s = c .before in
     let b = s .args .b .now in
     let i = s .args .image in
-    let f = s .pre .0 in (
-      levels-size (parentsIn b) (low b) (low-mono b i f) (low-kids b i f) (s .args .x) (s .pre .1 .0),
+    let f = s .pre .0 .sound in (
+      levels-size (parentsIn b) (low b) (low-mono b i f) (low-kids b i f) (s .args .x) (s .pre .0 .some),
       omega arith,
       omega arith,
       omega arith,
       omega arith,
-      s .pre .1 .1 .1,
+      s .pre .1,
       λ rest r. r,
     )
 
@@ -75,13 +75,13 @@ add-ones-before-zero : tie.Need-add-ones-before-zero Inv-loop μ-loop
 add-ones-before-zero c = omega arith
 
 ones-before-zero-requires : tie.Need-ones-before-zero-requires Inv-loop μ-loop
-ones-before-zero-requires c κs = (c .before .before .before .before .pre .0, (omega arith, omega arith))
+ones-before-zero-requires c κs = (c .before .before .before .before .pre .0 .sound, (omega arith, omega arith))
 
 add-ones-before-zero-2 : tie.Need-add-ones-before-zero-2 Inv-loop μ-loop
 add-ones-before-zero-2 c = omega arith
 
 ones-before-zero-requires-2 : tie.Need-ones-before-zero-requires-2 Inv-loop μ-loop
-ones-before-zero-requires-2 c κs = (c .before .before .before .before .before .pre .0, (omega arith, omega arith))
+ones-before-zero-requires-2 c κs = (c .before .before .before .before .before .pre .0 .sound, (omega arith, omega arith))
 
 add-depth : tie.Need-add-depth Inv-loop μ-loop
 add-depth c = omega arith
@@ -95,11 +95,12 @@ loop-again c =
     let s = c .before .before .before .before .before .before in
     let b = s .args .b .now in
     let i = s .args .image in
-    let f = s .pre .0 in
+    let f = s .pre .0 .sound in
     let e : c .before .ones-before-zero .result ≡ below b (l .a) = c .before .ones-before-zero .ensures ∙ before-low b i f (l .a + 1) (omega arith) (omega arith) in
     let g : c .ones-before-zero2 .result ≡ below b (l .z) = c .ones-before-zero2 .ensures ∙ before-low b i f (l .z + 1) (omega arith) (omega arith) in
     let next : (k : ℕ) → below b k ≡ low b (suc k) = λ k. ap (low b) (add-one k) in (
-      ap (λ d. levelsFrom (λ k. low b (suc k)) d (c .before .ones-before-zero .result) (c .ones-before-zero2 .result) (l .nodes + (l .z - l .a))) (let h : 64 - (l .depth + 1) ≡ 64 - l .depth - 1 = omega arith in h)
+      ap (λ d. levelsFrom (λ k. low b (suc k)) d (c .before .ones-before-zero .result) (c .ones-before-zero2 .result) (l .nodes + (l .z - l .a)))
+          (let h : 64 - (l .depth + 1) ≡ 64 - l .depth - 1 = omega arith in h)
           ∙ ap₂ (λ p q. levelsFrom (λ k. low b (suc k)) (64 - l .depth - 1) p q (l .nodes + (l .z - l .a))) (e ∙ next (l .a)) (g ∙ next (l .z))
           ∙ sym (levels-more (λ k. low b (suc k)) (64 - l .depth) (l .a) (l .z) (l .nodes) (omega arith) (c .before .before .before .loop-test .taken))
           ∙ l .inv .0,

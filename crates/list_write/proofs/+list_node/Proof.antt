@@ -10,7 +10,8 @@ use Rattle.bits_byte.proofs.Values.{value-le}
 use Rattle.list_measure.specs.Levels.{low, below}
 use Rattle.list_measure.specs.Cursors.{CursorsReady}
 use Rattle.list_measure.proofs.Numbers.{low-most, most-nodes, child-mark, last-mark}
-use Rattle.list_write.specs.Writing.{NodeIn, pairsOf, Listed}
+use Rattle.nav_strings.specs.Nodes.{IsNode}
+use Rattle.list_write.specs.Writing.{pairsOf, Listed}
 use Rattle.list_write.proofs.Cursors.{next-child}
 use Rattle.list_write.proofs.Writing.{listing-step, pair-put, pair-first, front-length, Going, going-all, going-room, going-more}
 use borrow.Fn.Kinds.{In}
@@ -101,7 +102,7 @@ record Next (b : List ℕ) (x left : ℕ) (cs₀ out₀ cs out : List ℕ) (fill
   going : Going b x left cs₀ out₀ cs out filled (getD cs (65 - left) 0)
   more : getD cs (65 - left) 0 < low b (x + 1)
   level : 65 - left < 64
-  node : NodeIn b (getD cs (65 - left) 0 + 1)
+  node : IsNode b (layoutIn b) (getD cs (65 - left) 0 + 1)
   most : nodesOf b ≤ 65535
   ready : CursorsReady (below b) (drop (suc (65 - left)) (set cs (65 - left) (getD cs (65 - left) 0 + 1))) (low b (getD cs (65 - left) 0 + 1)) (low b (getD cs (65 - left) 0 + 1 + 1))
   some : 2 ≤ length (pairsOf b (left - 1) (getD cs (65 - left) 0 + 1))
@@ -234,7 +235,8 @@ loop-again t c =
     let bit = value-le _ _ (c .is-last .ensures) in
     let last = last-mark b (layoutIn b) f (a .x) (y + 1) (c .is-last .result) (omega arith) (omega arith) (c .is-last .ensures) in (
       y + 1,
-      going-more b (a .x) (a .left) (a .cursors .now) (fronted t s) (l .cursors) (l .out) (l .filled) y (r .going) (r .more) (own t s .2) (layoutIn b) f (omega arith) (omega arith) _ _ _ _ refl (listed t (c .before .before .before)),
+      going-more b (a .x) (a .left) (a .cursors .now) (fronted t s) (l .cursors) (l .out) (l .filled) y (r .going) (r .more) (own t s .2) (layoutIn b) f (omega arith)
+          (omega arith) _ _ _ _ refl (listed t (c .before .before .before)),
       λ one. last .0 (omega arith),
       λ none. last .1 (λ z. none (omega arith)),
     )

@@ -6,7 +6,7 @@ use Rattle.meaning.specs.Bytes.{bitAt, value}
 use Rattle.theory.specs.Layout.{bitPlace}
 use Rattle.image_found.specs.Checked.{layoutIn}
 use Rattle.nav_strings.proofs.Strings.{ready0}
-use Rattle.nav_sibling_range.proofs.Own.{bit0}
+use Rattle.nav_strings.proofs.Bits.{bit0}
 use borrow.Author.Needs.{needs}
 use Rattle.list_write.proofs.has_child.Statement.{statement}
 use Rattle.list_write.proofs.has_child.Tie as tie
@@ -28,7 +28,7 @@ returns c =
     let s = c .before .before in
     let b = s .args .b .now in
     let n = s .pre .0 in
-    bit0 b (layoutIn b) (n .sound) (s .args .x) (c .string-bit .result) (n .some) (n .most)
+    bit0 n (c .string-bit .result)
     (c .string-bit .ensures ∙ ap (λ z. value (bitAt b (bitPlace z (s .args .x - 1)))) (s .pre .1))
 
 pub has-child-spec : {M : Type 1} → statement M

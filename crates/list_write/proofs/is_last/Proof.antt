@@ -2,7 +2,7 @@
 use native.Mathlib.Omega.{arith}
 use Rattle.image_found.specs.Checked.{layoutIn}
 use Rattle.nav_strings.proofs.Strings.{ready1}
-use Rattle.nav_sibling_range.proofs.Own.{bit1}
+use Rattle.nav_strings.proofs.Bits.{bit1}
 use borrow.Author.Needs.{needs}
 use Rattle.list_write.proofs.is_last.Statement.{statement}
 use Rattle.list_write.proofs.is_last.Tie as tie
@@ -19,11 +19,7 @@ string-bit-requires c κs =
     (omega (arith, n .some, n .most, r .most), (omega arith, omega (arith, n .some, n .most, r .room)))
 
 returns : tie.Need-returns
-returns c =
-    let s = c .before .before in
-    let b = s .args .b .now in
-    let n = s .pre in
-    bit1 b (layoutIn b) (n .sound) (s .args .x) (c .string-bit .result) (n .some) (n .most) (c .string-bit .ensures)
+returns c = bit1 (c .before .before .pre) (c .string-bit .result) (c .string-bit .ensures)
 
 pub is-last-spec : {M : Type 1} → statement M
 is-last-spec = tie.close (tie.spec sub-string-bit string-bit-requires returns)

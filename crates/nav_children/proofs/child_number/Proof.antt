@@ -1,25 +1,18 @@
 -- `nav_children::child_number` meets its contract.
+use mathlib.Core.Path.{_≡_, ap, _∙_}
 use native.Mathlib.Omega.{arith}
-use mathlib.Core.Path.{ap, _∙_}
-use Prim.Native.Nat.{_+_, _≤_}
-use Rattle.theory.specs.ByStrings.{within}
+use Rattle.meaning.specs.Bytes.{value}
+use Rattle.theory.specs.ByStrings.{bitOf, within}
+use Rattle.theory.specs.Stages.{readR0}
 use Rattle.ask_argument.specs.Values.{valueOf}
-use Rattle.theory.specs.Rank.{onesLeft}
-use Rattle.theory.specs.Stages.{readR1}
-use Rattle.nav_sibling_range.proofs.Own.{few, small1}
-use Rattle.nav_children.proofs.Families.{one-more, next-there, child-none, child-some}
+use Rattle.nav_children.proofs.Families.{child-none, has-child, small, child-some}
 use borrow.Author.Needs.{needs}
 use Rattle.nav_children.proofs.child_number.Statement.{statement}
 use Rattle.nav_children.proofs.child_number.Tie as tie
 
--- the one after the next is there too
-room : (c : tie.After-rank-r0) → (c .rank-r0 .result + 2 ≤ c .before .before .before .before .args .image .runs) × (c .rank-r0 .result ≤ 65535)
-room c =
-    let s = c .before .before .before .before in
-    let a = s .args in
-    let bit = c .before .before .bit-r0 in
-    let m = one-more (a .b .now) (a .image) (s .pre .0) (a .x) (s .pre .1 .0) (s .pre .1 .1) (bit .result) (bit .ensures) (c .before .if1 .left) in
-    (omega arith, omega (arith, few (a .b .now) (a .image) (s .pre .0)))
+-- the node has a child
+one : (c : tie.Else1) → let a = c .before .before .before .args in value (bitOf (readR0 (a .b .now)) (a .x)) ≡ 1
+one c = has-child (c .before .before .before .pre) (c .before .bit-r0 .result) (c .before .bit-r0 .ensures) (c .if1 .left)
 
 bit-r0-requires : tie.Need-bit-r0-requires
 bit-r0-requires c κs = search needs
@@ -27,61 +20,33 @@ bit-r0-requires c κs = search needs
 returns : tie.Need-returns
 returns c =
     let s = c .before .before .before in
-    let a = s .args in
-    child-none (a .b .now) (a .image) (s .pre .0) (a .x) (s .pre .1 .0) (s .pre .1 .1) (c .before .bit-r0 .result) (c .before .bit-r0 .ensures) (c .if1 .taken) (valueOf (a .z))
+    child-none (s .pre) (c .before .bit-r0 .result) (c .before .bit-r0 .ensures) (c .if1 .taken) (valueOf (s .args .z))
 
-rank-r0-requires : tie.Need-rank-r0-requires
-rank-r0-requires c κs = search needs
-
-add-select-r1 : tie.Need-add-select-r1
-add-select-r1 c = omega (arith, room c .1)
-
-select-r1-requires : tie.Need-select-r1-requires
-select-r1-requires c κs = (c .before .before .before .before .pre .0, (omega arith, omega (arith, room c .0)))
-
--- the next one comes after node low, so low is not the last node
-next : (c : tie.After-select-r1) → c .select-r1 .result + 1 ≤ c .before .before .before .before .before .args .image .nodes
-next c =
-    let s = c .before .before .before .before .before in
-    let a = s .args in
-    let k = c .before .rank-r0 in
-    let bit = c .before .before .before .bit-r0 in
-    next-there (a .b .now) (a .image) (s .pre .0) (a .x) (s .pre .1 .0) (s .pre .1 .1) (bit .result) (bit .ensures) (c .before .before .if1 .left) (k .result) (c .select-r1 .result) (k .ensures) (c .select-r1 .ensures)
-
-add-run-last : tie.Need-add-run-last
-add-run-last c = omega (arith, next c)
-
-run-last-requires : tie.Need-run-last-requires
-run-last-requires c κs = (c .before .before .before .before .before .pre .0, (omega arith, next c))
+children-of-requires : tie.Need-children-of-requires
+children-of-requires c κs = (c .before .before .before .pre, one c)
 
 shifted-requires : tie.Need-shifted-requires
 shifted-requires c κs =
-    let s = c .before .before .before .before .before .before in
-    let a = s .args in
-    omega (arith, small1 (a .b .now) (a .image) (s .pre .0) (c .before .before .rank-r0 .result + 1))
+    let k = c .before in
+    let r = c .children-of in
+    omega (arith, small (k .before .before .before .pre) (one k) (r .result) (r .ensures) .0)
 
 in-range-requires : tie.Need-in-range-requires
 in-range-requires c κs = search needs
 
 cast-result : tie.Need-cast-result
 cast-result c =
-    let s = c .before .before .before .before .before .before .before .before in
-    let a = s .args in
-    let low = c .before .before .before .select-r1 in
-    omega (arith, small1 (a .b .now) (a .image) (s .pre .0) (onesLeft (readR1 (a .b .now)) (low .result + 1) + 1), c .in-range .ensures .1)
+    let k = c .before .before .before in
+    let r = c .before .before .children-of in
+    omega (arith, small (k .before .before .before .pre) (one k) (r .result) (r .ensures) .1, c .in-range .ensures .1)
 
 returns-2 : tie.Need-returns-2
 returns-2 c =
-    let s = c .before .before .before .before .before .before .before .before in
-    let a = s .args in
-    let to = c .before .before in
-    let from = to .before in
-    let k = from .before in
-    let bit = k .before .before .bit-r0 in
-    let low = from .select-r1 in
-    let high = to .run-last in
-    child-some (a .b .now) (a .image) (s .pre .0) (a .x) (s .pre .1 .0) (s .pre .1 .1) (bit .result) (bit .ensures) (k .before .if1 .left) (k .rank-r0 .result) (low .result) (k .rank-r0 .ensures) (low .ensures) (high .result) (high .ensures) (c .in-range .result) (valueOf (a .z))
-    (c .in-range .ensures .0 ∙ ap (within (low .result) (high .result)) (c .before .shifted .ensures))
+    let k = c .before .before .before in
+    let s = k .before .before .before in
+    let r = c .before .before .children-of in
+    child-some (s .pre) (one k) (r .result) (r .ensures) (c .in-range .result) (valueOf (s .args .z))
+    (c .in-range .ensures .0 ∙ ap (within (r .result .after) (r .result .last)) (c .before .shifted .ensures))
 
 pub child-number-spec : {M : Type 1} → statement M
 child-number-spec =
@@ -89,11 +54,7 @@ child-number-spec =
     (tie.spec
     bit-r0-requires
     returns
-    rank-r0-requires
-    add-select-r1
-    select-r1-requires
-    add-run-last
-    run-last-requires
+    children-of-requires
     shifted-requires
     in-range-requires
     cast-result

@@ -2,7 +2,7 @@
 use native.Mathlib.Omega.{arith}
 use Prim.Native.Nat.{_+_}
 use Rattle.nav_sibling_range.proofs.Own.{small-before}
-use Rattle.nav_children.proofs.Families.{last-none, last-some}
+use Rattle.nav_children.proofs.Families.{last-none, has-child, last-some}
 use borrow.Author.Needs.{needs}
 use Rattle.nav_children.proofs.last_child.Statement.{statement}
 use Rattle.nav_children.proofs.last_child.Tie as tie
@@ -11,10 +11,7 @@ bit-r0-requires : tie.Need-bit-r0-requires
 bit-r0-requires c κs = search needs
 
 returns : tie.Need-returns
-returns c =
-    let s = c .before .before .before in
-    let a = s .args in
-    last-none (a .b .now) (a .image) (s .pre .0) (a .x) (s .pre .1 .0) (s .pre .1 .1) (c .before .bit-r0 .result) (c .before .bit-r0 .ensures) (c .if1 .taken)
+returns c = last-none (c .before .before .before .pre) (c .before .bit-r0 .result) (c .before .bit-r0 .ensures) (c .if1 .taken)
 
 add-ones-before-zero : tie.Need-add-ones-before-zero
 add-ones-before-zero c = search needs
@@ -26,13 +23,13 @@ cast-result : tie.Need-cast-result
 cast-result c =
     let s = c .before .before .before .before in
     let a = s .args in
-    omega (arith, small-before (a .b .now) (a .image) (s .pre .0) (a .x + 1))
+    omega (arith, small-before (a .b .now) (a .image) (s .pre .sound) (a .x + 1))
 
 returns-2 : tie.Need-returns-2
 returns-2 c =
-    let s = c .before .before .before .before in
-    let a = s .args in
-    last-some (a .b .now) (a .image) (s .pre .0) (a .x) (s .pre .1 .0) (s .pre .1 .1) (c .before .before .bit-r0 .result) (c .before .before .bit-r0 .ensures) (c .before .if1 .left) (c .ones-before-zero .result) (c .ones-before-zero .ensures)
+    let node = c .before .before .before .before .pre in
+    let bit = c .before .before .bit-r0 in
+    last-some node (has-child node (bit .result) (bit .ensures) (c .before .if1 .left)) (c .ones-before-zero .result) (c .ones-before-zero .ensures)
 
 pub last-child-spec : {M : Type 1} → statement M
 last-child-spec =

@@ -18,25 +18,23 @@ returns c =
     let s = c .before .before .before in
     let a = s .args in
     let r = readR0 (a .b .now) in
-    parent-given (a .b .now) (a .image) (s .pre .0) (a .x) (s .pre .1 .0) (s .pre .1 .1) (c .before .rank-r1 .result) 0 (c .before .rank-r1 .ensures) (sym (ap (position r) (c .if1 .taken) ∙ position-zero r))
+    parent-given (s .pre) (c .before .rank-r1 .result) 0 (c .before .rank-r1 .ensures) (sym (ap (position r) (c .if1 .taken) ∙ position-zero r))
 
 select-r0-requires : tie.Need-select-r0-requires
 select-r0-requires c κs =
     let s = c .before .before .before in
-    let a = s .args in
-    (s .pre .0, (omega arith, omega (arith, more1 (a .b .now) (a .image) (s .pre .0) (a .x) (s .pre .1 .0) (s .pre .1 .1))))
+    (s .pre .sound, (omega arith, omega (arith, more1 (s .pre))))
 
 cast-result : tie.Need-cast-result
 cast-result c =
     let s = c .before .before .before .before in
     let a = s .args in
-    omega (arith, small0 (a .b .now) (a .image) (s .pre .0) (c .before .before .rank-r1 .result))
+    omega (arith, small0 (a .b .now) (a .image) (s .pre .sound) (c .before .before .rank-r1 .result))
 
 returns-2 : tie.Need-returns-2
 returns-2 c =
     let s = c .before .before .before .before in
-    let a = s .args in
-    parent-given (a .b .now) (a .image) (s .pre .0) (a .x) (s .pre .1 .0) (s .pre .1 .1) (c .before .before .rank-r1 .result) (c .select-r0 .result) (c .before .before .rank-r1 .ensures) (c .select-r0 .ensures)
+    parent-given (s .pre) (c .before .before .rank-r1 .result) (c .select-r0 .result) (c .before .before .rank-r1 .ensures) (c .select-r0 .ensures)
 
 pub parent-of-spec : {M : Type 1} → statement M
 parent-of-spec =

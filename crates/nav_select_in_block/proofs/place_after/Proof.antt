@@ -12,7 +12,7 @@ use Rattle.nav_select_in_block.proofs.Blocks.{after-read, after-is}
 use Rattle.nav_select_in_block.proofs.place_after.Statement.{statement}
 use Rattle.nav_select_in_block.proofs.place_after.Tie as tie
 
--- the one stands in what is read
+-- the one is in what is read
 there : (c : tie.After-ones-in-front)
     → let a = c .before .before .before .args in
     let at = 512 * (a .first + a .i / 4000) + 4 + a .i % 4000 / 8 in

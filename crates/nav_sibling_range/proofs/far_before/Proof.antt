@@ -14,8 +14,7 @@ rank-r1-requires c κs = search needs
 run-end-requires : tie.Need-run-end-requires
 run-end-requires c κs =
     let s = c .before .before in
-    let a = s .args in
-    (s .pre .0, omega (arith, more1 (a .b .now) (a .image) (s .pre .0) (a .x) (s .pre .1 .0) (s .pre .1 .1)))
+    (s .pre .sound, omega (arith, more1 (s .pre)))
 
 returns : tie.Need-returns
 returns c =

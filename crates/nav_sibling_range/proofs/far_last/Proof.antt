@@ -16,13 +16,12 @@ add-select-r1 : tie.Need-add-select-r1
 add-select-r1 c =
     let s = c .before .before in
     let a = s .args in
-    omega (arith, few (a .b .now) (a .image) (s .pre .0), more1 (a .b .now) (a .image) (s .pre .0) (a .x) (s .pre .1 .0) (s .pre .1 .1))
+    omega (arith, few (a .b .now) (a .image) (s .pre .sound), more1 (s .pre))
 
 select-r1-requires : tie.Need-select-r1-requires
 select-r1-requires c κs =
     let s = c .before .before in
-    let a = s .args in
-    (s .pre .0, (omega arith, omega (arith, more1 (a .b .now) (a .image) (s .pre .0) (a .x) (s .pre .1 .0) (s .pre .1 .1))))
+    (s .pre .sound, (omega arith, omega (arith, more1 (s .pre))))
 
 returns : tie.Need-returns
 returns c =

@@ -22,7 +22,7 @@ last-one-requires : tie.Need-last-one-requires
 last-one-requires c κs =
     let s = c .before in
     let a = s .args in
-    let r = ready1 (a .b .now) (a .image) (s .pre .0) in
+    let r = ready1 (a .b .now) (a .image) (s .pre .sound) in
     (omega arith, omega (arith, r .most, r .room))
 
 far-before-requires : tie.Need-far-before-requires
@@ -39,10 +39,8 @@ add-result c = omega (arith, c .before .last-one .ensures .within)
 
 returns-2 : tie.Need-returns-2
 returns-2 c =
-    let s = c .before .before .before in
-    let a = s .args in
     let found = c .before .last-one in
-    near-left (a .b .now) (a .image) (s .pre .0) (a .x) (s .pre .1 .0) (s .pre .1 .1) (found .result) (found .ensures) (c .if1 .left)
+    near-left (c .before .before .before .pre) (found .result) (found .ensures) (c .if1 .left)
 
 pub run-before-spec : {M : Type 1} → statement M
 run-before-spec =

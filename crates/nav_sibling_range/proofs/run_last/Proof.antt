@@ -22,7 +22,7 @@ first-one-requires : tie.Need-first-one-requires
 first-one-requires c κs =
     let s = c .before in
     let a = s .args in
-    let r = ready1 (a .b .now) (a .image) (s .pre .0) in
+    let r = ready1 (a .b .now) (a .image) (s .pre .sound) in
     (omega arith, omega (arith, r .most, r .room))
 
 far-last-requires : tie.Need-far-last-requires
@@ -39,10 +39,8 @@ add-result c = omega (arith, c .before .first-one .ensures .within)
 
 returns-2 : tie.Need-returns-2
 returns-2 c =
-    let s = c .before .before .before in
-    let a = s .args in
     let found = c .before .first-one in
-    near-right (a .b .now) (a .image) (s .pre .0) (a .x) (s .pre .1 .0) (s .pre .1 .1) (found .result) (found .ensures) (c .if1 .left)
+    near-right (c .before .before .before .pre) (found .result) (found .ensures) (c .if1 .left)
 
 pub run-last-spec : {M : Type 1} → statement M
 run-last-spec =

@@ -14,7 +14,7 @@ shifted-requires : tie.Need-shifted-requires
 shifted-requires c κs =
     let s = c .before in
     let a = s .args in
-    omega (arith, strings (a .b .now) (a .image) (s .pre .0) .most)
+    omega (arith, strings (a .b .now) (a .image) (s .pre .sound) .most)
 
 run-before-requires : tie.Need-run-before-requires
 run-before-requires c κs = search needs
@@ -22,10 +22,9 @@ run-before-requires c κs = search needs
 returns : tie.Need-returns
 returns c =
     let s = c .before .before .before .before .before in
-    let a = s .args in
     let y = c .before .before .before .shifted in
     let low = c .before .run-before in
-    left-none (a .b .now) (a .image) (s .pre .0) (a .x) (s .pre .1 .0) (s .pre .1 .1) (y .result) (valueOf (a .z)) (y .ensures) (low .result) (low .ensures) (omega arith)
+    left-none (s .pre) (y .result) (valueOf (s .args .z)) (y .ensures) (low .result) (low .ensures) (omega arith)
 
 cast-result : tie.Need-cast-result
 cast-result c = search needs
@@ -33,10 +32,9 @@ cast-result c = search needs
 returns-2 : tie.Need-returns-2
 returns-2 c =
     let s = c .before .before .before .before .before in
-    let a = s .args in
     let y = c .before .before .before .shifted in
     let low = c .before .run-before in
-    left-some (a .b .now) (a .image) (s .pre .0) (a .x) (s .pre .1 .0) (s .pre .1 .1) (y .result) (valueOf (a .z)) (y .ensures) (low .result) (low .ensures) (omega arith) (omega arith)
+    left-some (s .pre) (y .result) (valueOf (s .args .z)) (y .ensures) (low .result) (low .ensures) (omega arith) (omega arith)
 
 run-last-requires : tie.Need-run-last-requires
 run-last-requires c κs = search needs
@@ -44,24 +42,22 @@ run-last-requires c κs = search needs
 returns-3 : tie.Need-returns-3
 returns-3 c =
     let s = c .before .before .before .before .before in
-    let a = s .args in
     let y = c .before .before .before .shifted in
     let high = c .before .run-last in
-    right-none (a .b .now) (a .image) (s .pre .0) (a .x) (s .pre .1 .0) (s .pre .1 .1) (y .result) (valueOf (a .z)) (y .ensures) (high .result) (high .ensures) (omega arith)
+    right-none (s .pre) (y .result) (valueOf (s .args .z)) (y .ensures) (high .result) (high .ensures) (omega arith)
 
 cast-result-2 : tie.Need-cast-result-2
 cast-result-2 c =
     let s = c .before .before .before .before .before in
     let a = s .args in
-    omega (arith, small1 (a .b .now) (a .image) (s .pre .0) (onesLeft (readR1 (a .b .now)) (a .x) + 1))
+    omega (arith, small1 (a .b .now) (a .image) (s .pre .sound) (onesLeft (readR1 (a .b .now)) (a .x) + 1))
 
 returns-4 : tie.Need-returns-4
 returns-4 c =
     let s = c .before .before .before .before .before in
-    let a = s .args in
     let y = c .before .before .before .shifted in
     let high = c .before .run-last in
-    right-some (a .b .now) (a .image) (s .pre .0) (a .x) (s .pre .1 .0) (s .pre .1 .1) (y .result) (valueOf (a .z)) (y .ensures) (high .result) (high .ensures) (omega arith) (omega arith)
+    right-some (s .pre) (y .result) (valueOf (s .args .z)) (y .ensures) (high .result) (high .ensures) (omega arith) (omega arith)
 
 pub sibling-at-spec : {M : Type 1} → statement M
 sibling-at-spec =

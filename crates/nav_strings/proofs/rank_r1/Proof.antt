@@ -14,14 +14,14 @@ cast-rank-2 c = omega arith
 rank-requires : tie.Need-rank-requires
 rank-requires c κs =
     let s = c .before .before .before in
-    let r = ready1 (s .args .b .now) (s .args .image) (s .pre .0) in
-    (s .pre .1 .0, (s .pre .1 .1, (r .most, (r .count, (r .near, (r .room, r .kept))))))
+    let r = ready1 (s .args .b .now) (s .args .image) (s .pre .sound) in
+    (s .pre .some, (s .pre .most, (r .most, (r .count, (r .near, (r .room, r .kept))))))
 
 returns : tie.Need-returns
 returns c =
     let s = c .before .before .before .before in
     let a = s .args in
-    in-r1 (a .b .now) (a .image) (s .pre .0) (λ r. onesLeft r (a .x)) (c .rank .result) (c .rank .ensures)
+    in-r1 (a .b .now) (a .image) (s .pre .sound) (λ r. onesLeft r (a .x)) (c .rank .result) (c .rank .ensures)
 
 pub rank-r1-spec : {M : Type 1} → statement M
 rank-r1-spec = tie.close (tie.spec cast-rank cast-rank-2 rank-requires returns)

@@ -22,13 +22,17 @@ slice-aggregate-put-field-3 : tie.Need-slice-aggregate-put-field-3
 slice-aggregate-put-field-3 c = search needs
 
 put-field-requires-3 : tie.Need-put-field-requires-3
-put-field-requires-3 c κs = let i = c .before .before .before .before .before .before .before .before .before .before .before .before .before .args .image in omega (arith, heading-size (i .nodes) (i .runs) (i .blocks))
+put-field-requires-3 c κs =
+    let i = c .before .before .before .before .before .before .before .before .before .before .before .before .before .args .image in
+    omega (arith, heading-size (i .nodes) (i .runs) (i .blocks))
 
 slice-aggregate-put : tie.Need-slice-aggregate-put
 slice-aggregate-put c = search needs
 
 put-requires : tie.Need-put-requires
-put-requires c κs = let i = c .before .before .before .before .before .before .before .before .before .before .before .before .before .before .before .before .before .before .args .image in omega (arith, heading-size (i .nodes) (i .runs) (i .blocks))
+put-requires c κs =
+    let i = c .before .before .before .before .before .before .before .before .before .before .before .before .before .before .before .before .before .before .args .image in
+    omega (arith, heading-size (i .nodes) (i .runs) (i .blocks))
 
 same-length : tie.Need-same-length
 same-length c = search needs

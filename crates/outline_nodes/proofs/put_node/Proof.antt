@@ -25,7 +25,9 @@ slice-aggregate-put : tie.Need-slice-aggregate-put
 slice-aggregate-put c = search needs
 
 put-requires : tie.Need-put-requires
-put-requires c κs = let a = c .before .before .before .before .before .before .before .before .before .before .before .before .before .before .before .before .before .args in omega (arith, node-size (a .x) (a .depth) (a .degree))
+put-requires c κs =
+    let a = c .before .before .before .before .before .before .before .before .before .before .before .before .before .before .before .before .before .args in
+    omega (arith, node-size (a .x) (a .depth) (a .degree))
 
 same-length : tie.Need-same-length
 same-length c = search needs

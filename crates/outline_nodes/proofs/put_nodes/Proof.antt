@@ -46,7 +46,9 @@ cast-degree-of : tie.Need-cast-degree-of Inv-loop μ-loop
 cast-degree-of c = omega (arith, c .before .before .shared-slice-known3 .given (c .before .before .before .before .loop .i))
 
 degree-of-requires : tie.Need-degree-of-requires Inv-loop μ-loop
-degree-of-requires c κs = let p = pair (c .before .before .before) in (c .before .before .before .before .before .before .before .before .pre .0, omega (arith, p .some, p .most))
+degree-of-requires c κs =
+    let p = pair (c .before .before .before) in
+    record { sound = c .before .before .before .before .before .before .before .before .pre .0; some = omega (arith, p .some); most = omega (arith, p .most) }
 
 put-node-requires : tie.Need-put-node-requires Inv-loop μ-loop
 put-node-requires c κs =

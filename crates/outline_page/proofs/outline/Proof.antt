@@ -19,7 +19,7 @@ use Rattle.outline_page.proofs.outline.Tie as tie
 sound : (c : tie.After-known-told) → checked (c .before .before .before .before .before .before .before .args .b .now) ≡ Sound (c .before .found .given .0 .0)
 sound c = sym (c .before .before .before .check .ensures) ∙ c .before .found .given .1
 
--- what the listing of its root came to
+-- what the listing of its root gave
 listed : (c : tie.After-list)
     → let k = c .before .before .before in
     Listed (k .before .before .before .before .before .before .before .args .b .now) (k .before .found .given .0 .0) (sound k) (c .list .result) (c .list .last .1 .1 .0)

@@ -20,7 +20,8 @@ over-at : (c : tie.After-end2 Inv-loop μ-loop) →
     let size = c .end2 .given .0 .1 .0 in
     (at < next) × (next ≤ c .before .before .before .before .before .before .before .before .args .n) × (size ≤ 65535) × (next ≡ at + (2 * size + 1))
 over-at c =
-    next-at _ _ _ _ (c .before .before .before .before .loop .inv .scanned) (c .before .before .before .loop-test .taken) (told-over _ _ _ _ (c .before .before .tree-end-by .ensures) (c .end2 .given .1))
+    next-at _ _ _ _ (c .before .before .before .before .loop .inv .scanned) (c .before .before .before .loop-test .taken)
+    (told-over _ _ _ _ (c .before .before .tree-end-by .ensures) (c .end2 .given .1))
 
 loop-holds : tie.Need-loop-holds Inv-loop μ-loop
 loop-holds c = noted-first _ _ _ _
@@ -32,7 +33,12 @@ enum-known-end : tie.Need-enum-known-end Inv-loop μ-loop
 enum-known-end c = search needs
 
 cast-t13 : tie.Need-cast-t13 Inv-loop μ-loop
-cast-t13 c = omega (arith, refused-at _ _ _ _ (c .before .before .before .before .before .loop .inv .scanned) (c .before .before .before .before .loop-test .taken) (told-refused _ _ _ _ (c .before .before .before .tree-end-by .ensures) (c .before .end .given .1)) .1)
+cast-t13 c =
+    omega (
+      arith,
+      refused-at _ _ _ _ (c .before .before .before .before .before .loop .inv .scanned) (c .before .before .before .before .loop-test .taken)
+          (told-refused _ _ _ _ (c .before .before .before .tree-end-by .ensures) (c .before .end .given .1)) .1,
+    )
 
 same-length : tie.Need-same-length Inv-loop μ-loop
 same-length c = noted-lengths _ _ _ _ _ _ _ _ (c .before .before .before .before .before .loop .inv) .0
@@ -73,7 +79,9 @@ loop-less c = omega (arith, over-at (c .before .before .before .before .before .
 loop-again : tie.Need-loop-again Inv-loop μ-loop
 loop-again c =
     let o = c .before .before .before .before .before .before .before .before .before in
-    noted-next _ _ _ _ _ _ _ _ (o .before .before .before .before .loop .inv) (o .before .before .before .loop-test .taken) (told-over _ _ _ _ (o .before .before .tree-end-by .ensures) (o .end2 .given .1)) (c .before .before .before .before .before .before .note .ensures) (c .before .before .note2 .ensures)
+    noted-next _ _ _ _ _ _ _ _ (o .before .before .before .before .loop .inv) (o .before .before .before .loop-test .taken)
+    (told-over _ _ _ _ (o .before .before .tree-end-by .ensures) (o .end2 .given .1)) (c .before .before .before .before .before .before .note .ensures)
+    (c .before .before .note2 .ensures)
 
 cast-t21 : tie.Need-cast-t21 Inv-loop μ-loop
 cast-t21 c = omega (arith, c .before .loop .inv .scanned .few)

@@ -55,7 +55,8 @@ loop-again : tie.Need-loop-again Inv-loop μ-loop
 loop-again c = (
   omega arith,
   omega arith,
-  c .before .before .before .before .before .loop .inv .2 ∙ bad-next _ _ _ (c .before .before .before .before .loop-test .taken) (c .before .before .if2 .left) (omega (arith, c .before .wide .ensures)),
+  c .before .before .before .before .before .loop .inv .2
+      ∙ bad-next _ _ _ (c .before .before .before .before .loop-test .taken) (c .before .before .if2 .left) (omega (arith, c .before .wide .ensures)),
 )
 
 returns-4 : tie.Need-returns-4 Inv-loop μ-loop

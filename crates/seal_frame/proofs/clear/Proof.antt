@@ -28,7 +28,12 @@ loop-less : tie.Need-loop-less Inv-loop μ-loop
 loop-less c = search needs
 
 loop-again : tie.Need-loop-again Inv-loop μ-loop
-loop-again c = let e : c .before .loop .i < length (c .before .before .args .image .now) = omega arith in (omega arith, clear-next (c .before .loop .image) (c .before .before .args .image .now) (c .before .loop .i) (c .before .loop .inv .1) e, length-set (c .before .loop .image) (c .before .loop .i) 0 ∙ c .before .loop .inv .2)
+loop-again c =
+    let e : c .before .loop .i < length (c .before .before .args .image .now) = omega arith in (
+      omega arith,
+      clear-next (c .before .loop .image) (c .before .before .args .image .now) (c .before .loop .i) (c .before .loop .inv .1) e,
+      length-set (c .before .loop .image) (c .before .loop .i) 0 ∙ c .before .loop .inv .2,
+    )
 
 same-length : tie.Need-same-length Inv-loop μ-loop
 same-length c = search needs

@@ -1,11 +1,9 @@
 -- `seal_image::fill` meets its contract.
 use mathlib.Core.Path.{ap}
-use Prim.Native.Nat.{_+_}
 use native.Mathlib.Omega.{arith}
 use borrow.Author.Needs.{needs}
 use Rattle.image_layout.specs.declared.Layout.{Layout}
-use Rattle.parents_check.proofs.Rising.{good-parents}
-use Rattle.seal_image.proofs.Preparing.{few-runs, ready, all-prepared}
+use Rattle.seal_image.proofs.Preparing.{ready, all-prepared}
 use Rattle.seal_image.proofs.fill.Statement.{statement}
 use Rattle.seal_image.proofs.fill.Tie as tie
 

@@ -40,7 +40,12 @@ sub-x c =
     let start = at .before .before .before in
     let a = start .args in
     let are = good-parents (a .ps .now) (start .pre .0) (start .pre .1 .1 .0) in
-    omega (arith, c .wide .ensures, gapping-low (a .ps .now) (a .image .now) (at .loop .image) (a .zeros) (at .loop .c) (at .loop .byte) (at .loop .i) are (at .loop .inv) (start .pre .1 .1 .1 .1 .0) (c .before .before .loop-test .taken) .0)
+    omega (
+      arith,
+      c .wide .ensures,
+      gapping-low (a .ps .now) (a .image .now) (at .loop .image) (a .zeros) (at .loop .c) (at .loop .byte) (at .loop .i) are (at .loop .inv) (start .pre .1 .1 .1 .1 .0)
+          (c .before .before .loop-test .taken) .0,
+    )
 
 byte-place-requires : tie.Need-byte-place-requires Inv-loop μ-loop
 byte-place-requires c κs = search needs
@@ -53,8 +58,15 @@ byte-place-requires-2 c κs =
     let at = c .before .before .before .before .before in
     let start = at .before .before .before in
     let a = start .args in
-    let are = good-parents (a .ps .now) (start .pre .0) (start .pre .1 .1 .0) in
-    (start .pre .1 .1 .1 .0, omega (arith, c .before .before .wide .ensures, gapping-low (a .ps .now) (a .image .now) (at .loop .image) (a .zeros) (at .loop .c) (at .loop .byte) (at .loop .i) are (at .loop .inv) (start .pre .1 .1 .1 .1 .0) (c .before .before .before .before .loop-test .taken) .1))
+    let are = good-parents (a .ps .now) (start .pre .0) (start .pre .1 .1 .0) in (
+      start .pre .1 .1 .1 .0,
+      omega (
+        arith,
+        c .before .before .wide .ensures,
+        gapping-low (a .ps .now) (a .image .now) (at .loop .image) (a .zeros) (at .loop .c) (at .loop .byte) (at .loop .i) are (at .loop .inv) (start .pre .1 .1 .1 .1 .0)
+            (c .before .before .before .before .loop-test .taken) .1,
+      ),
+    )
 
 slice-read-byte : tie.Need-slice-read-byte Inv-loop μ-loop
 slice-read-byte c =
@@ -62,7 +74,16 @@ slice-read-byte c =
     let start = at .before .before .before in
     let a = start .args in
     let are = good-parents (a .ps .now) (start .pre .0) (start .pre .1 .1 .0) in
-    omega (arith, length-set (at .loop .image) (c .before .before .byte-place .result) (at .loop .byte), c .before .byte-place2 .ensures, c .before .before .before .before .wide .ensures, gapping-low (a .ps .now) (a .image .now) (at .loop .image) (a .zeros) (at .loop .c) (at .loop .byte) (at .loop .i) are (at .loop .inv) (start .pre .1 .1 .1 .1 .0) (c .before .before .before .before .before .before .loop-test .taken) .1, at .loop .inv .kept, start .pre .1 .1 .1 .1 .0)
+    omega (
+      arith,
+      length-set (at .loop .image) (c .before .before .byte-place .result) (at .loop .byte),
+      c .before .byte-place2 .ensures,
+      c .before .before .before .before .wide .ensures,
+      gapping-low (a .ps .now) (a .image .now) (at .loop .image) (a .zeros) (at .loop .c) (at .loop .byte) (at .loop .i) are (at .loop .inv) (start .pre .1 .1 .1 .1 .0)
+          (c .before .before .before .before .before .before .loop-test .taken) .1,
+      at .loop .inv .kept,
+      start .pre .1 .1 .1 .1 .0,
+    )
 
 cast-byte : tie.Need-cast-byte Inv-loop μ-loop
 cast-byte c = search needs
@@ -84,10 +105,13 @@ loop-again c =
     let are = good-parents (a .ps .now) (start .pre .0) (start .pre .1 .1 .0) in
     let x = c .before .before .wide .result - 1 in
     ⊎-elim
-    (λ w. gapping-other (a .ps .now) (a .image .now) (at .loop .image) (a .zeros) (at .loop .c) (at .loop .byte) (at .loop .i) are (at .loop .inv) (start .pre .1 .1 .1 .1 .0) x (c .before .before .before .before .loop-test .taken) (ap (λ y. y - 1) (c .before .before .wide .ensures)) _ _ _
+    (λ w. gapping-other (a .ps .now) (a .image .now) (at .loop .image) (a .zeros) (at .loop .c) (at .loop .byte) (at .loop .i) are (at .loop .inv) (start .pre .1 .1 .1 .1 .0) x
+    (c .before .before .before .before .loop-test .taken) (ap (λ y. y - 1) (c .before .before .wide .ensures)) _ _ _
     (w .4 ∙ ap (λ p. set (at .loop .image) p (at .loop .byte)) (w .1 .ensures)) (w .5)
     (ap (λ y. bitOr y (128 / 2 ^ (x % 8))) (w .6 ∙ ap₂ (λ s p. getD s p 0) (sym (w .4)) (w .2 .ensures ∙ ap (λ j. bytePlace (a .zeros) j) (sym (w .5))))))
-    (λ w. gapping-same (a .ps .now) (a .image .now) (at .loop .image) (a .zeros) (at .loop .c) (at .loop .byte) (at .loop .i) are (at .loop .inv) (start .pre .1 .1 .1 .1 .0) x (c .before .before .before .before .loop-test .taken) (ap (λ y. y - 1) (c .before .before .wide .ensures)) _ _ _ (w .0 .left) (w .1) (w .2) (ap (λ y. bitOr y (128 / 2 ^ (x % 8))) (w .3)))
+    (λ w. gapping-same (a .ps .now) (a .image .now) (at .loop .image) (a .zeros) (at .loop .c) (at .loop .byte) (at .loop .i) are (at .loop .inv) (start .pre .1 .1 .1 .1 .0) x
+    (c .before .before .before .before .loop-test .taken) (ap (λ y. y - 1) (c .before .before .wide .ensures)) _ _ _ (w .0 .left) (w .1) (w .2)
+    (ap (λ y. bitOr y (128 / 2 ^ (x % 8))) (w .3)))
     (c .before .if1 .came)
 
 byte-place-requires-3 : tie.Need-byte-place-requires-3 Inv-loop μ-loop
@@ -135,7 +159,8 @@ returns c =
     let start = at .before .before .before in
     let a = start .args in
     let are = good-parents (a .ps .now) (start .pre .0) (start .pre .1 .1 .0) in
-    gapping-last (a .ps .now) (a .image .now) (at .loop .image) (a .zeros) (at .loop .c) (at .loop .byte) (at .loop .i) are (at .loop .inv) (start .pre .1 .1 .1 .1 .0) (c .before .before .before .before .before .loop-test .left) _ _
+    gapping-last (a .ps .now) (a .image .now) (at .loop .image) (a .zeros) (at .loop .c) (at .loop .byte) (at .loop .i) are (at .loop .inv) (start .pre .1 .1 .1 .1 .0)
+    (c .before .before .before .before .before .loop-test .left) _ _
     (ap (λ p. set (at .loop .image) p (at .loop .byte)) (c .before .before .before .before .byte-place3 .ensures)) (c .before .before .set-bit .ensures)
 
 pub write-r0-spec : {M : Type 1} → statement M

@@ -48,7 +48,8 @@ sub-next-entry c =
     let start = at .before .before .before in
     let a = start .args in
     let are = good-parents (a .ps .now) (start .pre .0) (start .pre .1 .1 .0) in
-    following-place (a .ps .now) (a .image .now) (at .loop .image) (a .first) (a .second) (at .loop .s) are (at .loop .inv) (start .pre .1 .1 .1 .1 .1 .1 .1 .0) (omega arith) (omega arith) (start .pre .1 .0) (omega arith) (c .wide .result) (c .wide .ensures ∙ c .before .word .ensures) .0
+    following-place (a .ps .now) (a .image .now) (at .loop .image) (a .first) (a .second) (at .loop .s) are (at .loop .inv) (start .pre .1 .1 .1 .1 .1 .1 .1 .0) (omega arith)
+    (omega arith) (start .pre .1 .0) (omega arith) (c .wide .result) (c .wide .ensures ∙ c .before .word .ensures) .0
 
 next-entry-requires : tie.Need-next-entry-requires Inv-loop μ-loop
 next-entry-requires c κs =
@@ -56,7 +57,9 @@ next-entry-requires c κs =
     let start = at .before .before .before in
     let a = start .args in
     let are = good-parents (a .ps .now) (start .pre .0) (start .pre .1 .1 .0) in
-    let f = following-place (a .ps .now) (a .image .now) (at .loop .image) (a .first) (a .second) (at .loop .s) are (at .loop .inv) (start .pre .1 .1 .1 .1 .1 .1 .1 .0) (omega arith) (omega arith) (start .pre .1 .0) (omega arith) (c .wide .result) (c .wide .ensures ∙ c .before .word .ensures) in
+    let f =
+    following-place (a .ps .now) (a .image .now) (at .loop .image) (a .first) (a .second) (at .loop .s) are (at .loop .inv) (start .pre .1 .1 .1 .1 .1 .1 .1 .0) (omega arith)
+    (omega arith) (start .pre .1 .0) (omega arith) (c .wide .result) (c .wide .ensures ∙ c .before .word .ensures) in
     (omega (arith, f .0, f .1), start .pre .1 .0)
 
 add-put-word : tie.Need-add-put-word Inv-loop μ-loop
@@ -77,7 +80,12 @@ cast-put-word c =
     let start = at .before .before .before in
     let a = start .args in
     let are = good-parents (a .ps .now) (start .pre .0) (start .pre .1 .1 .0) in
-    omega (arith, following-small (a .ps .now) (a .image .now) (at .loop .image) (a .first) (a .second) (at .loop .s) are (at .loop .inv) (start .pre .1 .1 .1 .1 .1 .1 .1 .0) (omega arith) (omega arith) (start .pre .1 .0) (omega arith) (c .before .before .wide .result) (c .before .before .wide .ensures ∙ c .before .before .before .word .ensures) (c .before .next-entry .result) (c .before .next-entry .ensures))
+    omega (
+      arith,
+      following-small (a .ps .now) (a .image .now) (at .loop .image) (a .first) (a .second) (at .loop .s) are (at .loop .inv) (start .pre .1 .1 .1 .1 .1 .1 .1 .0) (omega arith)
+          (omega arith) (start .pre .1 .0) (omega arith) (c .before .before .wide .result) (c .before .before .wide .ensures ∙ c .before .before .before .word .ensures)
+          (c .before .next-entry .result) (c .before .next-entry .ensures),
+    )
 
 put-word-requires : tie.Need-put-word-requires Inv-loop μ-loop
 put-word-requires c κs = search needs
@@ -94,7 +102,10 @@ loop-again c =
     let start = at .before .before .before in
     let a = start .args in
     let are = good-parents (a .ps .now) (start .pre .0) (start .pre .1 .1 .0) in
-    following-next (a .ps .now) (a .image .now) (at .loop .image) (a .first) (a .second) (at .loop .s) are (at .loop .inv) (start .pre .1 .1 .1 .1 .1 .1 .1 .0) (omega arith) (omega arith) (start .pre .1 .0) (omega arith) (c .before .before .before .before .before .wide .result) (c .before .before .before .before .before .wide .ensures ∙ c .before .before .before .before .before .before .word .ensures) (c .before .before .before .before .next-entry .result) (c .before .before .before .before .next-entry .ensures) _ (c .before .before .put-word .ensures)
+    following-next (a .ps .now) (a .image .now) (at .loop .image) (a .first) (a .second) (at .loop .s) are (at .loop .inv) (start .pre .1 .1 .1 .1 .1 .1 .1 .0) (omega arith)
+    (omega arith) (start .pre .1 .0) (omega arith) (c .before .before .before .before .before .wide .result)
+    (c .before .before .before .before .before .wide .ensures ∙ c .before .before .before .before .before .before .word .ensures)
+    (c .before .before .before .before .next-entry .result) (c .before .before .before .before .next-entry .ensures) _ (c .before .before .put-word .ensures)
 
 same-length : tie.Need-same-length Inv-loop μ-loop
 same-length c = c .before .loop .inv .kept

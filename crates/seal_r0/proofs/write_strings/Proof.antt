@@ -31,7 +31,10 @@ write-r1-requires c κs =
               omega (arith, r .isFirst),
               (
                 omega (arith, r .isFirst, r .room),
-                (blank-ends (a .ps .now) (a .image .now) (a .layout .«r0_block») (a .layout .«r1_samples») (a .layout .«r0_samples») r, blank-first (a .ps .now) (a .image .now) (a .layout .«r0_block») (a .layout .«r1_samples») (a .layout .«r0_samples») r),
+                (
+                  blank-ends (a .ps .now) (a .image .now) (a .layout .«r0_block») (a .layout .«r1_samples») (a .layout .«r0_samples») r,
+                  blank-first (a .ps .now) (a .image .now) (a .layout .«r0_block») (a .layout .«r1_samples») (a .layout .«r0_samples») r,
+                ),
               ),
             ),
           ),
@@ -48,8 +51,22 @@ write-r0-requires c κs =
     let a = start .args in
     let r = start .pre in
     let ends = c .before .before .before .before .write-r1 in
-    let kept : length (ends .last .0) ≡ length (a .image .now) = ends .kept .0 in
-    (r .some, (r .most, (r .good, (omega (arith, r .isR0, r .most), (omega (arith, r .isR0, r .room, kept), blank-gaps (a .ps .now) (a .image .now) (a .layout .«r0_block») (a .layout .«r1_samples») (a .layout .«r0_samples») r _ (ends .ensures .1))))))
+    let kept : length (ends .last .0) ≡ length (a .image .now) = ends .kept .0 in (
+      r .some,
+      (
+        r .most,
+        (
+          r .good,
+          (
+            omega (arith, r .isR0, r .most),
+            (
+              omega (arith, r .isR0, r .room, kept),
+              blank-gaps (a .ps .now) (a .image .now) (a .layout .«r0_block») (a .layout .«r1_samples») (a .layout .«r0_samples») r _ (ends .ensures .1),
+            ),
+          ),
+        ),
+      ),
+    )
 
 write-r0-samples-requires : tie.Need-write-r0-samples-requires
 write-r0-samples-requires c κs =
@@ -77,7 +94,8 @@ write-r0-samples-requires c κs =
                   omega (arith, m, r .isSecond, r .room, kept1, kept2),
                   (
                     known (a .ps .now) (a .image .now) (a .layout .«r0_block») (a .layout .«r1_samples») (a .layout .«r0_samples») r _ (ends .ensures .1) _ (gaps .ensures),
-                    subst (λ k. Blank (gaps .last .0) (a .layout .«r0_samples») (blocksOfSamples k)) (sym m) (blank-second (a .ps .now) (a .image .now) (a .layout .«r0_block») (a .layout .«r1_samples») (a .layout .«r0_samples») r _ (ends .ensures .1) _ (gaps .ensures)),
+                    subst (λ k. Blank (gaps .last .0) (a .layout .«r0_samples») (blocksOfSamples k)) (sym m)
+                        (blank-second (a .ps .now) (a .image .now) (a .layout .«r0_block») (a .layout .«r1_samples») (a .layout .«r0_samples») r _ (ends .ensures .1) _ (gaps .ensures)),
                   ),
                 ),
               ),
@@ -95,7 +113,9 @@ returns c =
     let start = c .before .before .before .before .before .before .before .before .before .before .before .before .before .before .before .before .before in
     let a = start .args in
     let r = start .pre in
-    all-ran (a .ps .now) (a .image .now) (a .layout .«r0_block») (a .layout .«r1_samples») (a .layout .«r0_samples») r _ (c .before .before .before .before .before .before .before .before .before .before .before .write-r1 .ensures .1) _ (c .before .before .before .before .before .before .write-r0 .ensures) _ (c .before .before .write-r0-samples .ensures)
+    all-ran (a .ps .now) (a .image .now) (a .layout .«r0_block») (a .layout .«r1_samples») (a .layout .«r0_samples») r _
+    (c .before .before .before .before .before .before .before .before .before .before .before .write-r1 .ensures .1) _
+    (c .before .before .before .before .before .before .write-r0 .ensures) _ (c .before .before .write-r0-samples .ensures)
 
 pub write-strings-spec : {M : Type 1} → statement M
 write-strings-spec =

@@ -34,7 +34,9 @@ write-r1-byte-requires c κs =
     let start = at .before .before .before in
     let a = start .args in
     let are = good-parents (a .ps .now) (start .pre .0) (start .pre .1 .1 .0) in
-    let within = ending-within (a .ps .now) (a .image .now) (at .loop .image) (a .first) (at .loop .b) (at .loop .k) are (at .loop .inv) _ (c .before .r1-byte .ensures) (c .before .before .loop-test .taken) in
+    let within =
+    ending-within (a .ps .now) (a .image .now) (at .loop .image) (a .first) (at .loop .b) (at .loop .k) are (at .loop .inv) _ (c .before .r1-byte .ensures)
+    (c .before .before .loop-test .taken) in
     let few = ending-few (a .ps .now) (a .image .now) (at .loop .image) (a .first) (at .loop .b) (at .loop .k) are (at .loop .inv) (omega arith) in
     search needs
 
@@ -50,7 +52,9 @@ loop-again c =
     let start = at .before .before .before in
     let a = start .args in
     let are = good-parents (a .ps .now) (start .pre .0) (start .pre .1 .1 .0) in
-    ending-next (a .ps .now) (a .image .now) (at .loop .image) (a .first) (at .loop .b) (at .loop .k) are (at .loop .inv) _ (c .before .before .before .before .r1-byte .ensures) (c .before .before .before .before .before .loop-test .taken) (start .pre .1 .0) (start .pre .1 .1 .1 .1 .0) (start .pre .1 .1 .1 .1 .1 .0) _ _ (c .before .before .write-r1-byte .ensures .1) (c .before .before .write-r1-byte .ensures .0)
+    ending-next (a .ps .now) (a .image .now) (at .loop .image) (a .first) (at .loop .b) (at .loop .k) are (at .loop .inv) _ (c .before .before .before .before .r1-byte .ensures)
+    (c .before .before .before .before .before .loop-test .taken) (start .pre .1 .0) (start .pre .1 .1 .1 .1 .0) (start .pre .1 .1 .1 .1 .1 .0) _ _
+    (c .before .before .write-r1-byte .ensures .1) (c .before .before .write-r1-byte .ensures .0)
 
 same-length : tie.Need-same-length Inv-loop μ-loop
 same-length c = c .before .loop .inv .kept

@@ -56,7 +56,11 @@ add-x : tie.Need-add-x Inv-loop μ-loop
 add-x c =
     let at = c .before .before .before .before in
     let start = at .before .before in
-    omega (arith, shifted-small (R1 (stringOf (start .args .ps .now))) (start .args .i) (at .loop .j) (at .loop .x) (c .before .before .before .loop-test .taken) (at .loop .inv .1), c .differ .ensures .1)
+    omega (
+      arith,
+      shifted-small (R1 (stringOf (start .args .ps .now))) (start .args .i) (at .loop .j) (at .loop .x) (c .before .before .before .loop-test .taken) (at .loop .inv .1),
+      c .differ .ensures .1,
+    )
 
 add-j : tie.Need-add-j Inv-loop μ-loop
 add-j c = search needs

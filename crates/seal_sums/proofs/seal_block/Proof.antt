@@ -42,7 +42,8 @@ returns c =
     let a = c .before .before .before .before .before .before .before .before .before .before .before .args in
     let r = c .before .before .before .before .before .before .before .before .block-sums .result in
     c .before .before .put-word2 .ensures ∙ ap (λ x. withWord x (512 * a .i + 508) (r .t)) (c .before .before .before .before .before .before .put-word .ensures)
-    ∙ sums-written (a .b .now) (a .i) (c .before .before .before .before .before .before .before .before .before .before .before .pre .0) (r .s) (r .t) (c .before .before .before .before .before .before .before .before .block-sums .ensures)
+    ∙ sums-written (a .b .now) (a .i) (c .before .before .before .before .before .before .before .before .before .before .before .pre .0) (r .s) (r .t)
+    (c .before .before .before .before .before .before .before .before .block-sums .ensures)
 
 pub seal-block-spec : {M : Type 1} → statement M
 seal-block-spec =

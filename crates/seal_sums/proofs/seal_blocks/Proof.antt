@@ -33,8 +33,11 @@ loop-less c = omega arith
 loop-again : tie.Need-loop-again Inv-loop μ-loop
 loop-again c =
     let a = c .before .before .before .before .before .before .before .args in
-    let i = c .before .before .before .before .before .loop .i in
-    (omega arith, c .before .before .seal-block .ensures ∙ ap (λ x. withSums x i) (c .before .before .before .before .before .loop .inv .1) ∙ sealed-next (a .b .now) i (omega arith) ∙ ap (sealedTo (a .b .now)) (sym (add-one i)))
+    let i = c .before .before .before .before .before .loop .i in (
+      omega arith,
+      c .before .before .seal-block .ensures ∙ ap (λ x. withSums x i) (c .before .before .before .before .before .loop .inv .1) ∙ sealed-next (a .b .now) i (omega arith)
+          ∙ ap (sealedTo (a .b .now)) (sym (add-one i)),
+    )
 
 same-length : tie.Need-same-length Inv-loop μ-loop
 same-length c =

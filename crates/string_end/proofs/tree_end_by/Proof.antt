@@ -1,4 +1,5 @@
--- `string_end::tree_end_by` meets its contract. Both loops keep: the tree's end is that of what is left, with the nodes pending and allowed by then.
+-- `string_end::tree_end_by` meets its contract. Both loops keep: the tree's end is that of what is
+-- left, with the nodes pending and allowed by then.
 use Prim.Native.Nat.{ℕ, _+_, _-_, _*_, _/_, _%_, _^_, _≤_, _<_}
 use mathlib.Core.Path.{_≡_, refl, sym, ap, _∙_}
 use borrow.Author.Needs.{needs}
@@ -79,7 +80,7 @@ tree-less-2 c = search needs
 tree-again-2 : tie.Need-tree-again-2 Inv-loop μ-loop Inv-tree μ-tree
 tree-again-2 c = let i = c .before .loop .inv in (omega arith, i .6, i .7)
 
--- the byte at which the reading stands, and the bit that is read of it, as a number
+-- the byte at which the reading is, and the bit that is read of it, as a number
 abbrev byte-at : tie.At-tree Inv-loop μ-loop Inv-tree μ-tree → ℕ
 byte-at c = getD (c .before .before .args .b .now) (c .tree .p / 8) 0
 

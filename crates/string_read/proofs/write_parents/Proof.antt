@@ -43,7 +43,9 @@ loop-less : tie.Need-loop-less Inv-loop μ-loop Inv-loop2 μ-loop2
 loop-less c = let m = byte-more _ _ _ _ _ _ _ (c .before .before .before .before .before .before .loop .inv) (omega arith) in omega arith
 
 loop-again : tie.Need-loop-again Inv-loop μ-loop Inv-loop2 μ-loop2
-loop-again c = kept-byte _ _ _ _ _ _ _ (c .before .before .before .before .before .before .loop .inv) (omega arith) _ _ (c .before .before .write-byte .ensures) (c .before .before .before .before .before .before .before .before .before .pre .1 .1 .1)
+loop-again c =
+    kept-byte _ _ _ _ _ _ _ (c .before .before .before .before .before .before .loop .inv) (omega arith) _ _ (c .before .before .write-byte .ensures)
+    (c .before .before .before .before .before .before .before .before .before .pre .1 .1 .1)
 
 mul-p : tie.Need-mul-p Inv-loop μ-loop Inv-loop2 μ-loop2
 mul-p c = omega arith
@@ -79,7 +81,9 @@ loop2-less : tie.Need-loop2-less Inv-loop μ-loop Inv-loop2 μ-loop2
 loop2-less c = let l = more _ _ _ _ _ _ _ (c .before .before .before .loop2 .inv) (c .before .before .loop2-test .taken) in omega arith
 
 loop2-again : tie.Need-loop2-again Inv-loop μ-loop Inv-loop2 μ-loop2
-loop2-again c = kept-next _ _ _ _ _ _ _ (c .before .before .before .loop2 .inv) (c .before .before .loop2-test .taken) _ (c .wide-byte .ensures ∙ c .before .bit-at .ensures) (omega (arith, c .before .before .before .before .before .loop .inv .size))
+loop2-again c =
+    kept-next _ _ _ _ _ _ _ (c .before .before .before .loop2 .inv) (c .before .before .loop2-test .taken) _ (c .wide-byte .ensures ∙ c .before .bit-at .ensures)
+    (omega (arith, c .before .before .before .before .before .loop .inv .size))
 
 same-length : tie.Need-same-length Inv-loop μ-loop Inv-loop2 μ-loop2
 same-length c = c .before .loop2 .inv .size ∙ c .before .before .before .loop .inv .size

@@ -45,16 +45,33 @@ add-t15 : tie.Need-add-t15 Inv-loop μ-loop
 add-t15 c = search needs
 
 sub-t16 : tie.Need-sub-t16 Inv-loop μ-loop
-sub-t16 c = let l = c .before .before .before .before .before .before .before .before .before .before .before .loop in omega (arith, byte-left _ _ _ (l .r) (l .inv) (c .before .before .before .before .before .before .before .before .before .if1 .taken) (c .before .before .before .wide .ensures ∙ c .before .before .before .before .ones-in-byte .ensures) (c .before .before .before .before .before .before .before .fall-of .ensures) (c .before .before .before .before .before .if2 .left))
+sub-t16 c =
+    let l = c .before .before .before .before .before .before .before .before .before .before .before .loop in
+    omega (
+      arith,
+      byte-left _ _ _ (l .r) (l .inv) (c .before .before .before .before .before .before .before .before .before .if1 .taken)
+          (c .before .before .before .wide .ensures ∙ c .before .before .before .before .ones-in-byte .ensures)
+          (c .before .before .before .before .before .before .before .fall-of .ensures) (c .before .before .before .before .before .if2 .left),
+    )
 
 returns-3 : tie.Need-returns-3 Inv-loop μ-loop
-returns-3 c = let l = c .before .before .before .before .before .before .before .before .before .before .before .before .before .before .loop in byte-more _ _ _ (l .r) (l .inv) (c .before .before .before .before .before .before .before .before .before .before .before .before .if1 .taken) (c .before .before .before .before .before .before .wide .ensures ∙ c .before .before .before .before .before .before .before .ones-in-byte .ensures) (c .before .before .before .before .before .before .before .before .before .before .fall-of .ensures) (c .before .before .before .before .before .before .before .before .if2 .left) (c .before .before .before .before .if3 .left)
+returns-3 c =
+    let l = c .before .before .before .before .before .before .before .before .before .before .before .before .before .before .loop in
+    byte-more _ _ _ (l .r) (l .inv) (c .before .before .before .before .before .before .before .before .before .before .before .before .if1 .taken)
+    (c .before .before .before .before .before .before .wide .ensures ∙ c .before .before .before .before .before .before .before .ones-in-byte .ensures)
+    (c .before .before .before .before .before .before .before .before .before .before .fall-of .ensures)
+    (c .before .before .before .before .before .before .before .before .if2 .left) (c .before .before .before .before .if3 .left)
 
 loop-less : tie.Need-loop-less Inv-loop μ-loop
 loop-less c = search needs
 
 loop-again : tie.Need-loop-again Inv-loop μ-loop
-loop-again c = let l = c .before .before .before .before .before .before .before .before .before .before .before .before .before .before .loop in byte-more _ _ _ (l .r) (l .inv) (c .before .before .before .before .before .before .before .before .before .before .before .before .if1 .taken) (c .before .before .before .before .before .before .wide .ensures ∙ c .before .before .before .before .before .before .before .ones-in-byte .ensures) (c .before .before .before .before .before .before .before .before .before .before .fall-of .ensures) (c .before .before .before .before .before .before .before .before .if2 .left) (c .before .before .before .before .if3 .left)
+loop-again c =
+    let l = c .before .before .before .before .before .before .before .before .before .before .before .before .before .before .loop in
+    byte-more _ _ _ (l .r) (l .inv) (c .before .before .before .before .before .before .before .before .before .before .before .before .if1 .taken)
+    (c .before .before .before .before .before .before .wide .ensures ∙ c .before .before .before .before .before .before .before .ones-in-byte .ensures)
+    (c .before .before .before .before .before .before .before .before .before .before .fall-of .ensures)
+    (c .before .before .before .before .before .before .before .before .if2 .left) (c .before .before .before .before .if3 .left)
 
 returns-4 : tie.Need-returns-4 Inv-loop μ-loop
 returns-4 c = search needs

@@ -49,7 +49,9 @@ loop-less c = search needs
 loop-again : tie.Need-loop-again Inv-loop μ-loop
 loop-again c =
     let l = c .before .before .before .before .before .before .before .before .before .before .before .loop in
-    more _ _ _ (l .r) (l .inv) 8 _ (c .before .before .before .before .before .before .before .before .before .if1 .taken) (c .before .before .before .before .before .wide .ensures ∙ c .before .before .before .before .before .before .ones-in-word .ensures) (word-fall _ _ _ (c .before .before .before .before .before .before .before .if2 .left)) (c .before .before .before .if3 .left)
+    more _ _ _ (l .r) (l .inv) 8 _ (c .before .before .before .before .before .before .before .before .before .if1 .taken)
+    (c .before .before .before .before .before .wide .ensures ∙ c .before .before .before .before .before .before .ones-in-word .ensures)
+    (word-fall _ _ _ (c .before .before .before .before .before .before .before .if2 .left)) (c .before .before .before .if3 .left)
 
 returns-3 : tie.Need-returns-3 Inv-loop μ-loop
 returns-3 c = search needs

@@ -24,7 +24,9 @@ blank-requires : tie.Need-blank-requires Inv-loop μ-loop
 blank-requires c κs = search needs
 
 loop-holds : tie.Need-loop-holds Inv-loop μ-loop
-loop-holds c = marked-first _ _ _ _ (good-parents _ (c .before .before .before .before .before .before .pre .0) (c .before .before .before .before .before .before .pre .1 .1 .0)) (c .before .before .blank .ensures)
+loop-holds c =
+    marked-first _ _ _ _ (good-parents _ (c .before .before .before .before .before .before .pre .0) (c .before .before .before .before .before .before .pre .1 .1 .0))
+    (c .before .before .blank .ensures)
 
 add-set-bit : tie.Need-add-set-bit Inv-loop μ-loop
 add-set-bit c = omega arith
@@ -42,7 +44,9 @@ add-set-bit-2 : tie.Need-add-set-bit-2 Inv-loop μ-loop
 add-set-bit-2 c = let e = entry-le _ _ _ _ _ (c .before .before .before .before .loop .inv) (c .before .before .before .loop-test .taken) in omega (arith, c .wide .ensures)
 
 set-bit-requires : tie.Need-set-bit-requires Inv-loop μ-loop
-set-bit-requires c κs = let e = entry-le _ _ _ _ _ (c .before .before .before .before .loop .inv) (c .before .before .before .loop-test .taken) in omega (arith, c .wide .ensures, c .before .before .before .before .loop .inv .kept)
+set-bit-requires c κs =
+    let e = entry-le _ _ _ _ _ (c .before .before .before .before .loop .inv) (c .before .before .before .loop-test .taken) in
+    omega (arith, c .wide .ensures, c .before .before .before .before .loop .inv .kept)
 
 add-i : tie.Need-add-i Inv-loop μ-loop
 add-i c = omega arith
@@ -51,13 +55,19 @@ loop-less : tie.Need-loop-less Inv-loop μ-loop
 loop-less c = omega arith
 
 loop-again : tie.Need-loop-again Inv-loop μ-loop
-loop-again c = let a = c .before .before .before .before .before .before .before in let s = a .before .before .before .before .before .before .before in marked-next _ _ _ _ _ (a .loop .inv) (c .before .before .before .before .before .before .loop-test .taken) _ _ (c .before .before .set-bit .ensures) (c .before .before .before .wide .ensures) (λ i h. omega (arith, a .before .slice-known2 .given i)) (omega (arith, a .before .before .before .blank .kept .0))
+loop-again c =
+    let a = c .before .before .before .before .before .before .before in
+    let s = a .before .before .before .before .before .before .before in
+    marked-next _ _ _ _ _ (a .loop .inv) (c .before .before .before .before .before .before .loop-test .taken) _ _ (c .before .before .set-bit .ensures)
+    (c .before .before .before .wide .ensures) (λ i h. omega (arith, a .before .slice-known2 .given i)) (omega (arith, a .before .before .before .blank .kept .0))
 
 same-length : tie.Need-same-length Inv-loop μ-loop
 same-length c = omega (arith, c .before .loop .inv .kept)
 
 returns : tie.Need-returns Inv-loop μ-loop
-returns c = let s = c .before .before .before .before .before .before .before .before in marked-last _ _ _ _ _ _ (good-parents _ (s .pre .0) (s .pre .1 .1 .0)) (c .before .before .before .before .blank .ensures) (c .before .loop .inv) (c .loop-test .left)
+returns c =
+    let s = c .before .before .before .before .before .before .before .before in
+    marked-last _ _ _ _ _ _ (good-parents _ (s .pre .0) (s .pre .1 .1 .0)) (c .before .before .before .before .blank .ensures) (c .before .loop .inv) (c .loop-test .left)
 
 pub write-string-spec : {M : Type 1} → statement M
 write-string-spec =

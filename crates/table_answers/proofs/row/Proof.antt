@@ -1,6 +1,5 @@
 -- `table_answers::row` meets its contract.
 use mathlib.Core.Path.{sym, ap}
-use borrow.Author.Needs.{needs}
 use Rattle.meaning.specs.Answers.{_at_when_, alone}
 use Rattle.table_answers.proofs.row.Statement.{statement}
 use Rattle.table_answers.proofs.row.Tie as tie

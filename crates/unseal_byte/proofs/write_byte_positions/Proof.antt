@@ -59,8 +59,11 @@ loop-again c =
     let byte = a .x ∷ [] in
     let j = l .bit - 1 in
     let s = a .i + j + 1 in
-    let most = bits-length byte 0 (a .n) in
-    (omega arith, down-next (bitsFrom byte 0 (a .n)) (bitAt byte j ∷ []) (a .i) (a .k) (a .out .now) j 1 (l .bit) (omega arith) (bit-piece byte (a .n) j (omega arith)) (omega arith) (l .out) (l .low) (l .inv .1) _ _ (length-set (l .out) (l .low - 1) s) (placed-bit (bitAt byte j) (a .i + j) (l .low) (l .out) _ (c .bit-of .ensures) (omega arith) (omega arith)))
+    let most = bits-length byte 0 (a .n) in (
+      omega arith,
+      down-next (bitsFrom byte 0 (a .n)) (bitAt byte j ∷ []) (a .i) (a .k) (a .out .now) j 1 (l .bit) (omega arith) (bit-piece byte (a .n) j (omega arith)) (omega arith) (l .out)
+          (l .low) (l .inv .1) _ _ (length-set (l .out) (l .low - 1) s) (placed-bit (bitAt byte j) (a .i + j) (l .low) (l .out) _ (c .bit-of .ensures) (omega arith) (omega arith)),
+    )
 
 same-length : tie.Need-same-length Inv-loop μ-loop
 same-length c = c .before .loop .inv .1 .size

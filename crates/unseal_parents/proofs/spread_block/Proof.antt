@@ -45,8 +45,13 @@ spread-byte-requires c κs =
     let all = bitsFrom b (8 * a .at) (a .n) in
     let new = bitsFrom (getD b (a .at + w) 0 ∷ []) 0 8 in
     let l = bits-length b (8 * a .at) (a .n) in
-    let e = byte-piece b (a .at) (a .n) w 8 (omega arith) (omega arith) in
-    (omega arith, (up-behind all new (a .i) (a .p) (a .out .now) (8 * w) 8 (8 * w + 8) refl e (omega arith) (o .out) (o .from) (o .inv .1), up-room all new (a .i) (a .p) (a .out .now) (8 * w) 8 (8 * w + 8) refl e (omega arith) (o .out) (o .from) (o .inv .1)))
+    let e = byte-piece b (a .at) (a .n) w 8 (omega arith) (omega arith) in (
+      omega arith,
+      (
+        up-behind all new (a .i) (a .p) (a .out .now) (8 * w) 8 (8 * w + 8) refl e (omega arith) (o .out) (o .from) (o .inv .1),
+        up-room all new (a .i) (a .p) (a .out .now) (8 * w) 8 (8 * w + 8) refl e (omega arith) (o .out) (o .from) (o .inv .1),
+      ),
+    )
 
 add-w : tie.Need-add-w Inv-loop μ-loop
 add-w c = omega arith
@@ -63,8 +68,11 @@ loop-again c =
     let w = o .w in
     let all = bitsFrom b (8 * a .at) (a .n) in
     let new = bitsFrom (getD b (a .at + w) 0 ∷ []) 0 8 in
-    let l = bits-length b (8 * a .at) (a .n) in
-    (omega arith, up-next all new (a .i) (a .p) (a .out .now) (8 * w) 8 (8 * (w + 1)) (omega arith) (byte-piece b (a .at) (a .n) w 8 (omega arith) (omega arith)) (omega arith) (o .out) (o .from) (o .inv .1) _ _ (f .kept .1 .1 .1 .1 .0) (f .ensures))
+    let l = bits-length b (8 * a .at) (a .n) in (
+      omega arith,
+      up-next all new (a .i) (a .p) (a .out .now) (8 * w) 8 (8 * (w + 1)) (omega arith) (byte-piece b (a .at) (a .n) w 8 (omega arith) (omega arith)) (omega arith) (o .out) (o .from)
+          (o .inv .1) _ _ (f .kept .1 .1 .1 .1 .0) (f .ensures),
+    )
 
 add-spread-byte-3 : tie.Need-add-spread-byte-3 Inv-loop μ-loop
 add-spread-byte-3 c = omega arith
@@ -88,8 +96,13 @@ spread-byte-requires-2 c κs =
     let all = bitsFrom b (8 * a .at) (a .n) in
     let new = bitsFrom (getD b (a .at + w) 0 ∷ []) 0 r in
     let l = bits-length b (8 * a .at) (a .n) in
-    let e = byte-piece b (a .at) (a .n) w r (omega arith) (omega arith) in
-    (omega arith, (up-behind all new (a .i) (a .p) (a .out .now) (8 * w) r (a .n) (omega arith) e (omega arith) (o .out) (o .from) (o .inv .1), up-room all new (a .i) (a .p) (a .out .now) (8 * w) r (a .n) (omega arith) e (omega arith) (o .out) (o .from) (o .inv .1)))
+    let e = byte-piece b (a .at) (a .n) w r (omega arith) (omega arith) in (
+      omega arith,
+      (
+        up-behind all new (a .i) (a .p) (a .out .now) (8 * w) r (a .n) (omega arith) e (omega arith) (o .out) (o .from) (o .inv .1),
+        up-room all new (a .i) (a .p) (a .out .now) (8 * w) r (a .n) (omega arith) e (omega arith) (o .out) (o .from) (o .inv .1),
+      ),
+    )
 
 same-length : tie.Need-same-length Inv-loop μ-loop
 same-length c = c .before .before .spread-byte2 .kept .1 .1 .1 .1 .0 ∙ c .before .before .before .before .before .before .loop .inv .1 .size
@@ -105,7 +118,9 @@ returns c =
     let all = bitsFrom b (8 * a .at) (a .n) in
     let new = bitsFrom (getD b (a .at + w) 0 ∷ []) 0 r in
     let l = bits-length b (8 * a .at) (a .n) in
-    up-done all (a .i) (a .p) (a .out .now) (a .n) _ _ (omega arith) (up-next all new (a .i) (a .p) (a .out .now) (8 * w) r (a .n) (omega arith) (byte-piece b (a .at) (a .n) w r (omega arith) (omega arith)) (omega arith) (o .out) (o .from) (o .inv .1) _ _ (f .kept .1 .1 .1 .1 .0) (f .ensures))
+    up-done all (a .i) (a .p) (a .out .now) (a .n) _ _ (omega arith)
+    (up-next all new (a .i) (a .p) (a .out .now) (8 * w) r (a .n) (omega arith) (byte-piece b (a .at) (a .n) w r (omega arith) (omega arith)) (omega arith) (o .out) (o .from)
+    (o .inv .1) _ _ (f .kept .1 .1 .1 .1 .0) (f .ensures))
 
 pub spread-block-spec : {M : Type 1} → statement M
 spread-block-spec =

@@ -55,8 +55,12 @@ loop-again c =
     let l = c .before .before .before .loop in
     let byte = a .x ∷ [] in
     let j = l .bit in
-    let most = bits-length byte 0 (a .n) in
-    (omega arith, up-next (bitsFrom byte 0 (a .n)) (bitAt byte j ∷ []) (a .i) (a .p) (a .out .now) j 1 (j + 1) (omega arith) (bit-piece byte (a .n) j (omega arith)) (omega arith) (l .out) (l .from) (l .inv .1) _ _ (length-set (l .out) (a .i + j) (getD (l .out) (l .from) 0)) (spread-bit (bitAt byte j) (a .i + j) (l .from) (l .out) _ (c .bit-of .ensures) (omega arith)))
+    let most = bits-length byte 0 (a .n) in (
+      omega arith,
+      up-next (bitsFrom byte 0 (a .n)) (bitAt byte j ∷ []) (a .i) (a .p) (a .out .now) j 1 (j + 1) (omega arith) (bit-piece byte (a .n) j (omega arith)) (omega arith) (l .out)
+          (l .from) (l .inv .1) _ _ (length-set (l .out) (a .i + j) (getD (l .out) (l .from) 0))
+          (spread-bit (bitAt byte j) (a .i + j) (l .from) (l .out) _ (c .bit-of .ensures) (omega arith)),
+    )
 
 same-length : tie.Need-same-length Inv-loop μ-loop
 same-length c = c .before .loop .inv .1 .size

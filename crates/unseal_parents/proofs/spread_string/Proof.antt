@@ -47,8 +47,16 @@ spread-block-requires c κs =
     let new = bitsFrom b (8 * (512 * (1 + j) + 4)) 4000 in
     let l = length-stringIn b 1 0 (a .n) in
     let e = block-piece b 1 (a .n) j 4000 (omega arith) (omega arith) in
-    let t = 4000 * (j + 1) in
-    (omega arith, (omega arith, (omega (arith, up-behind all new 0 (a .p) (a .out .now) (4000 * j) 4000 t (omega arith) e (omega arith) (o .out) (o .from) (o .inv .1)), up-room all new 0 (a .p) (a .out .now) (4000 * j) 4000 t (omega arith) e (omega arith) (o .out) (o .from) (o .inv .1))))
+    let t = 4000 * (j + 1) in (
+      omega arith,
+      (
+        omega arith,
+        (
+          omega (arith, up-behind all new 0 (a .p) (a .out .now) (4000 * j) 4000 t (omega arith) e (omega arith) (o .out) (o .from) (o .inv .1)),
+          up-room all new 0 (a .p) (a .out .now) (4000 * j) 4000 t (omega arith) e (omega arith) (o .out) (o .from) (o .inv .1),
+        ),
+      ),
+    )
 
 add-j : tie.Need-add-j Inv-loop μ-loop
 add-j c = omega arith
@@ -65,8 +73,11 @@ loop-again c =
     let j = o .j in
     let all = stringIn b 1 0 (a .n) in
     let new = bitsFrom b (8 * (512 * (1 + j) + 4)) 4000 in
-    let l = length-stringIn b 1 0 (a .n) in
-    (omega arith, up-next all new 0 (a .p) (a .out .now) (4000 * j) 4000 (4000 * (j + 1)) (omega arith) (block-piece b 1 (a .n) j 4000 (omega arith) (omega arith)) (omega arith) (o .out) (o .from) (o .inv .1) _ _ (f .kept .1 .1 .1 .1 .1 .0) (spread-at new (4000 * j) _ _ _ _ (f .ensures)))
+    let l = length-stringIn b 1 0 (a .n) in (
+      omega arith,
+      up-next all new 0 (a .p) (a .out .now) (4000 * j) 4000 (4000 * (j + 1)) (omega arith) (block-piece b 1 (a .n) j 4000 (omega arith) (omega arith)) (omega arith) (o .out)
+          (o .from) (o .inv .1) _ _ (f .kept .1 .1 .1 .1 .1 .0) (spread-at new (4000 * j) _ _ _ _ (f .ensures)),
+    )
 
 add-spread-block-3 : tie.Need-add-spread-block-3 Inv-loop μ-loop
 add-spread-block-3 c = omega arith
@@ -90,8 +101,16 @@ spread-block-requires-2 c κs =
     let all = stringIn b 1 0 (a .n) in
     let new = bitsFrom b (8 * (512 * (1 + j) + 4)) r in
     let l = length-stringIn b 1 0 (a .n) in
-    let e = block-piece b 1 (a .n) j r (omega arith) (omega arith) in
-    (omega arith, (omega arith, (omega (arith, up-behind all new 0 (a .p) (a .out .now) (4000 * j) r (a .n) (omega arith) e (omega arith) (o .out) (o .from) (o .inv .1)), up-room all new 0 (a .p) (a .out .now) (4000 * j) r (a .n) (omega arith) e (omega arith) (o .out) (o .from) (o .inv .1))))
+    let e = block-piece b 1 (a .n) j r (omega arith) (omega arith) in (
+      omega arith,
+      (
+        omega arith,
+        (
+          omega (arith, up-behind all new 0 (a .p) (a .out .now) (4000 * j) r (a .n) (omega arith) e (omega arith) (o .out) (o .from) (o .inv .1)),
+          up-room all new 0 (a .p) (a .out .now) (4000 * j) r (a .n) (omega arith) e (omega arith) (o .out) (o .from) (o .inv .1),
+        ),
+      ),
+    )
 
 same-length : tie.Need-same-length Inv-loop μ-loop
 same-length c = c .before .before .spread-block2 .kept .1 .1 .1 .1 .1 .0 ∙ c .before .before .before .before .before .loop .inv .1 .size
@@ -107,7 +126,9 @@ returns c =
     let all = stringIn b 1 0 (a .n) in
     let new = bitsFrom b (8 * (512 * (1 + j) + 4)) r in
     let l = length-stringIn b 1 0 (a .n) in
-    up-done all 0 (a .p) (a .out .now) (a .n) _ _ (omega arith) (up-next all new 0 (a .p) (a .out .now) (4000 * j) r (a .n) (omega arith) (block-piece b 1 (a .n) j r (omega arith) (omega arith)) (omega arith) (o .out) (o .from) (o .inv .1) _ _ (f .kept .1 .1 .1 .1 .1 .0) (spread-at new (4000 * j) _ _ _ _ (f .ensures))) .made
+    up-done all 0 (a .p) (a .out .now) (a .n) _ _ (omega arith)
+    (up-next all new 0 (a .p) (a .out .now) (4000 * j) r (a .n) (omega arith) (block-piece b 1 (a .n) j r (omega arith) (omega arith)) (omega arith) (o .out) (o .from)
+    (o .inv .1) _ _ (f .kept .1 .1 .1 .1 .1 .0) (spread-at new (4000 * j) _ _ _ _ (f .ensures))) .made
     ∙ ap (λ n. spread all (drop (a .p) (a .out .now)) ++ drop n (a .out .now)) (let e : 0 + length all ≡ a .n = omega arith in e)
 
 pub spread-string-spec : {M : Type 1} → statement M

@@ -58,7 +58,8 @@ returns c =
     let b = a .b .now in
     let h = lasts b (a .zeros) (a .n) (c .before .before .before .before .before .before .before .before .before .before .pre .1 .1 .1 .0) in
     let l = length-stringIn b 1 0 (a .n - 1) in
-    parents-written (stringIn b 1 0 (a .n - 1)) (stringIn b (a .zeros) 0 (a .n)) (h .marks) (a .n) (f .result) (a .out .now) (f .last .1 .1 .1 .0) (omega arith) (length-stringIn b (a .zeros) 0 (a .n)) (omega arith) (f .kept .1 .1 .1 .0) (h .runs1) (h .runs0) (f .ensures) _ (c .before .before .spread-string .ensures)
+    parents-written (stringIn b 1 0 (a .n - 1)) (stringIn b (a .zeros) 0 (a .n)) (h .marks) (a .n) (f .result) (a .out .now) (f .last .1 .1 .1 .0) (omega arith)
+    (length-stringIn b (a .zeros) 0 (a .n)) (omega arith) (f .kept .1 .1 .1 .0) (h .runs1) (h .runs0) (f .ensures) _ (c .before .before .spread-string .ensures)
     ∙ ap₂ (λ r1 r0. written (parentsOf (woven r1 r0)) (a .out .now)) (sym (h .last1)) (sym (h .last0))
 
 pub write-parents-spec : {M : Type 1} → statement M

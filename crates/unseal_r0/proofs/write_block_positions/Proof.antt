@@ -12,7 +12,7 @@ use Rattle.unseal_byte.proofs.Placing.{placed-zeros, Down, down-room, down-next
 use Rattle.unseal_r0.proofs.write_block_positions.Statement.{statement}
 use Rattle.unseal_r0.proofs.write_block_positions.Tie as tie
 
--- the whole bytes, after the bits behind them were placed
+-- the whole bytes, after the bits after them were placed
 abbrev Inv-loop : tie.InvT-loop
 Inv-loop b at n i k out₀ w₀ low₀ out w low = (w ≤ w₀) × Down (bitsFrom b (8 * at) (8 * w₀)) i low₀ out₀ (8 * w) out low
 
@@ -38,8 +38,17 @@ write-byte-positions-requires c κs =
     let b = a .b .now in
     let v = a .n / 8 in
     let r = a .n % 8 in
-    let l = bits-length b (8 * a .at) (a .n) in
-    (omega arith, (omega arith, (last-room (bitsFrom b (8 * a .at) (a .n)) (bitsFrom (getD b (a .at + v) 0 ∷ []) 0 r) (a .i) (a .k) (a .out .now) (8 * v) r (omega arith) (byte-piece b (a .at) (a .n) v r (omega arith) (omega arith)) (p .1 .1 .1 .0) (p .1 .1 .1 .1), omega arith)))
+    let l = bits-length b (8 * a .at) (a .n) in (
+      omega arith,
+      (
+        omega arith,
+        (
+          last-room (bitsFrom b (8 * a .at) (a .n)) (bitsFrom (getD b (a .at + v) 0 ∷ []) 0 r) (a .i) (a .k) (a .out .now) (8 * v) r (omega arith)
+              (byte-piece b (a .at) (a .n) v r (omega arith) (omega arith)) (p .1 .1 .1 .0) (p .1 .1 .1 .1),
+          omega arith,
+        ),
+      ),
+    )
 
 loop-holds : tie.Need-loop-holds Inv-loop μ-loop
 loop-holds c =
@@ -49,8 +58,12 @@ loop-holds c =
     let v = a .n / 8 in
     let r = a .n % 8 in
     let all = bitsFrom b (8 * a .at) (a .n) in
-    let l = bits-length b (8 * a .at) (a .n) in
-    (omega arith, down-again all (bitsFrom b (8 * a .at) (8 * v)) (a .i) (a .k) (a .out .now) (8 * v) (bits-take b (8 * a .at) (8 * v) (a .n) (omega arith)) (omega arith) _ _ (last-down all (bitsFrom (getD b (a .at + v) 0 ∷ []) 0 r) (a .i) (a .k) (a .out .now) (8 * v) r (omega arith) (byte-piece b (a .at) (a .n) v r (omega arith) (omega arith)) (p .1 .1 .1 .0) (p .1 .1 .1 .1) _ _ (c .before .before .write-byte-positions .kept .1 .1 .1 .1 .0) (c .before .before .write-byte-positions .ensures)))
+    let l = bits-length b (8 * a .at) (a .n) in (
+      omega arith,
+      down-again all (bitsFrom b (8 * a .at) (8 * v)) (a .i) (a .k) (a .out .now) (8 * v) (bits-take b (8 * a .at) (8 * v) (a .n) (omega arith)) (omega arith) _ _
+          (last-down all (bitsFrom (getD b (a .at + v) 0 ∷ []) 0 r) (a .i) (a .k) (a .out .now) (8 * v) r (omega arith) (byte-piece b (a .at) (a .n) v r (omega arith) (omega arith))
+          (p .1 .1 .1 .0) (p .1 .1 .1 .1) _ _ (c .before .before .write-byte-positions .kept .1 .1 .1 .1 .0) (c .before .before .write-byte-positions .ensures)),
+    )
 
 sub-w : tie.Need-sub-w Inv-loop μ-loop
 sub-w c = omega arith
@@ -74,8 +87,17 @@ write-byte-positions-requires-2 c κs =
     let b = a .b .now in
     let v = a .n / 8 in
     let w = l .w - 1 in
-    let most = bits-length b (8 * a .at) (8 * v) in
-    (omega arith, (omega arith, (down-room (bitsFrom b (8 * a .at) (8 * v)) (bitsFrom (getD b (a .at + w) 0 ∷ []) 0 8) (a .i) _ _ (8 * w) 8 (8 * l .w) (omega arith) (byte-piece b (a .at) (8 * v) w 8 (omega arith) (omega arith)) (omega arith) (l .out) (l .low) (l .inv .1), omega arith)))
+    let most = bits-length b (8 * a .at) (8 * v) in (
+      omega arith,
+      (
+        omega arith,
+        (
+          down-room (bitsFrom b (8 * a .at) (8 * v)) (bitsFrom (getD b (a .at + w) 0 ∷ []) 0 8) (a .i) _ _ (8 * w) 8 (8 * l .w) (omega arith)
+              (byte-piece b (a .at) (8 * v) w 8 (omega arith) (omega arith)) (omega arith) (l .out) (l .low) (l .inv .1),
+          omega arith,
+        ),
+      ),
+    )
 
 loop-less : tie.Need-loop-less Inv-loop μ-loop
 loop-less c = omega arith
@@ -87,8 +109,12 @@ loop-again c =
     let b = a .b .now in
     let v = a .n / 8 in
     let w = l .w - 1 in
-    let most = bits-length b (8 * a .at) (8 * v) in
-    (omega arith, down-next (bitsFrom b (8 * a .at) (8 * v)) (bitsFrom (getD b (a .at + w) 0 ∷ []) 0 8) (a .i) _ _ (8 * w) 8 (8 * l .w) (omega arith) (byte-piece b (a .at) (8 * v) w 8 (omega arith) (omega arith)) (omega arith) (l .out) (l .low) (l .inv .1) _ _ (c .before .before .write-byte-positions2 .kept .1 .1 .1 .1 .0) (c .before .before .write-byte-positions2 .ensures))
+    let most = bits-length b (8 * a .at) (8 * v) in (
+      omega arith,
+      down-next (bitsFrom b (8 * a .at) (8 * v)) (bitsFrom (getD b (a .at + w) 0 ∷ []) 0 8) (a .i) _ _ (8 * w) 8 (8 * l .w) (omega arith)
+          (byte-piece b (a .at) (8 * v) w 8 (omega arith) (omega arith)) (omega arith) (l .out) (l .low) (l .inv .1) _ _ (c .before .before .write-byte-positions2 .kept .1 .1 .1 .1 .0)
+          (c .before .before .write-byte-positions2 .ensures),
+    )
 
 loop-less-2 : tie.Need-loop-less-2 Inv-loop μ-loop
 loop-less-2 c = omega arith
@@ -101,8 +127,11 @@ loop-again-2 c =
     let v = a .n / 8 in
     let w = l .w - 1 in
     let x = getD b (a .at + w) 0 in
-    let most = bits-length b (8 * a .at) (8 * v) in
-    (omega arith, down-next (bitsFrom b (8 * a .at) (8 * v)) (bitsFrom (x ∷ []) 0 8) (a .i) _ _ (8 * w) 8 (8 * l .w) (omega arith) (byte-piece b (a .at) (8 * v) w 8 (omega arith) (omega arith)) (omega arith) (l .out) (l .low) (l .inv .1) _ _ refl (placed-zeros x (a .i + 8 * w) (l .low) (l .out) (c .if1 .left)))
+    let most = bits-length b (8 * a .at) (8 * v) in (
+      omega arith,
+      down-next (bitsFrom b (8 * a .at) (8 * v)) (bitsFrom (x ∷ []) 0 8) (a .i) _ _ (8 * w) 8 (8 * l .w) (omega arith) (byte-piece b (a .at) (8 * v) w 8 (omega arith) (omega arith))
+          (omega arith) (l .out) (l .low) (l .inv .1) _ _ refl (placed-zeros x (a .i + 8 * w) (l .low) (l .out) (c .if1 .left)),
+    )
 
 same-length : tie.Need-same-length Inv-loop μ-loop
 same-length c = c .before .loop .inv .1 .size ∙ c .before .before .before .before .write-byte-positions .kept .1 .1 .1 .1 .0
@@ -118,7 +147,10 @@ returns c =
     let r = a .n % 8 in
     let all = bitsFrom b (8 * a .at) (a .n) in
     let l = bits-length b (8 * a .at) (a .n) in
-    down-joined all (bitsFrom b (8 * a .at) (8 * v)) (a .i) (a .k) (a .out .now) (8 * v) (bits-take b (8 * a .at) (8 * v) (a .n) (omega arith)) (omega arith) _ _ (last-down all (bitsFrom (getD b (a .at + v) 0 ∷ []) 0 r) (a .i) (a .k) (a .out .now) (8 * v) r (omega arith) (byte-piece b (a .at) (a .n) v r (omega arith) (omega arith)) (p .1 .1 .1 .0) (p .1 .1 .1 .1) _ _ (f .kept .1 .1 .1 .1 .0) (f .ensures)) (o .out) (o .low) (o .inv .1 .size) (down-done (bitsFrom b (8 * a .at) (8 * v)) (a .i) _ _ (8 * o .w) (o .out) (o .low) (omega arith) (o .inv .1))
+    down-joined all (bitsFrom b (8 * a .at) (8 * v)) (a .i) (a .k) (a .out .now) (8 * v) (bits-take b (8 * a .at) (8 * v) (a .n) (omega arith)) (omega arith) _ _
+    (last-down all (bitsFrom (getD b (a .at + v) 0 ∷ []) 0 r) (a .i) (a .k) (a .out .now) (8 * v) r (omega arith) (byte-piece b (a .at) (a .n) v r (omega arith) (omega arith))
+    (p .1 .1 .1 .0) (p .1 .1 .1 .1) _ _ (f .kept .1 .1 .1 .1 .0) (f .ensures))
+    (o .out) (o .low) (o .inv .1 .size) (down-done (bitsFrom b (8 * a .at) (8 * v)) (a .i) _ _ (8 * o .w) (o .out) (o .low) (omega arith) (o .inv .1))
 
 pub write-block-positions-spec : {M : Type 1} → statement M
 write-block-positions-spec =

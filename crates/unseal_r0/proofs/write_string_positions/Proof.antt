@@ -11,7 +11,7 @@ use Rattle.unseal_byte.proofs.Placing.{Down, down-room, down-next, down-done, p
 use Rattle.unseal_r0.proofs.write_string_positions.Statement.{statement}
 use Rattle.unseal_r0.proofs.write_string_positions.Tie as tie
 
--- the whole blocks, after the bits behind them were placed
+-- the whole blocks, after the bits after them were placed
 abbrev Inv-loop : tie.InvT-loop
 Inv-loop b first n out₀ j₀ low₀ out j low = (j ≤ j₀) × Down (stringIn b first 0 (4000 * j₀)) 0 low₀ out₀ (4000 * j) out low
 
@@ -37,8 +37,20 @@ write-block-positions-requires c κs =
     let b = a .b .now in
     let v = a .n / 4000 in
     let r = a .n % 4000 in
-    let l = length-stringIn b (a .first) 0 (a .n) in
-    (omega arith, (omega arith, (omega arith, (last-room (stringIn b (a .first) 0 (a .n)) (bitsFrom b (8 * (512 * (a .first + v) + 4)) r) 0 (a .n) (a .out .now) (4000 * v) r (omega arith) (block-piece b (a .first) (a .n) v r (omega arith) (omega arith)) (p .1 .1 .1 .0) (p .1 .1 .1 .1), omega arith))))
+    let l = length-stringIn b (a .first) 0 (a .n) in (
+      omega arith,
+      (
+        omega arith,
+        (
+          omega arith,
+          (
+            last-room (stringIn b (a .first) 0 (a .n)) (bitsFrom b (8 * (512 * (a .first + v) + 4)) r) 0 (a .n) (a .out .now) (4000 * v) r (omega arith)
+                (block-piece b (a .first) (a .n) v r (omega arith) (omega arith)) (p .1 .1 .1 .0) (p .1 .1 .1 .1),
+            omega arith,
+          ),
+        ),
+      ),
+    )
 
 loop-holds : tie.Need-loop-holds Inv-loop μ-loop
 loop-holds c =
@@ -50,8 +62,12 @@ loop-holds c =
     let r = a .n % 4000 in
     let all = stringIn b (a .first) 0 (a .n) in
     let new = bitsFrom b (8 * (512 * (a .first + v) + 4)) r in
-    let l = length-stringIn b (a .first) 0 (a .n) in
-    (omega arith, down-again all (stringIn b (a .first) 0 (4000 * v)) 0 (a .n) (a .out .now) (4000 * v) (stringIn-take b (a .first) (4000 * v) (a .n) (omega arith)) (omega arith) _ _ (last-down all new 0 (a .n) (a .out .now) (4000 * v) r (omega arith) (block-piece b (a .first) (a .n) v r (omega arith) (omega arith)) (p .1 .1 .1 .0) (p .1 .1 .1 .1) _ _ (f .kept .1 .1 .1 .1 .1 .0) (placed-at new (4000 * v) _ _ _ _ (f .ensures))))
+    let l = length-stringIn b (a .first) 0 (a .n) in (
+      omega arith,
+      down-again all (stringIn b (a .first) 0 (4000 * v)) 0 (a .n) (a .out .now) (4000 * v) (stringIn-take b (a .first) (4000 * v) (a .n) (omega arith)) (omega arith) _ _
+          (last-down all new 0 (a .n) (a .out .now) (4000 * v) r (omega arith) (block-piece b (a .first) (a .n) v r (omega arith) (omega arith)) (p .1 .1 .1 .0) (p .1 .1 .1 .1) _ _
+          (f .kept .1 .1 .1 .1 .1 .0) (placed-at new (4000 * v) _ _ _ _ (f .ensures))),
+    )
 
 sub-j : tie.Need-sub-j Inv-loop μ-loop
 sub-j c = omega arith
@@ -75,8 +91,20 @@ write-block-positions-requires-2 c κs =
     let b = a .b .now in
     let v = a .n / 4000 in
     let j = o .j - 1 in
-    let most = length-stringIn b (a .first) 0 (4000 * v) in
-    (omega arith, (omega arith, (omega arith, (down-room (stringIn b (a .first) 0 (4000 * v)) (bitsFrom b (8 * (512 * (a .first + j) + 4)) 4000) 0 _ _ (4000 * j) 4000 (4000 * o .j) (omega arith) (block-piece b (a .first) (4000 * v) j 4000 (omega arith) (omega arith)) (omega arith) (o .out) (o .low) (o .inv .1), omega arith))))
+    let most = length-stringIn b (a .first) 0 (4000 * v) in (
+      omega arith,
+      (
+        omega arith,
+        (
+          omega arith,
+          (
+            down-room (stringIn b (a .first) 0 (4000 * v)) (bitsFrom b (8 * (512 * (a .first + j) + 4)) 4000) 0 _ _ (4000 * j) 4000 (4000 * o .j) (omega arith)
+                (block-piece b (a .first) (4000 * v) j 4000 (omega arith) (omega arith)) (omega arith) (o .out) (o .low) (o .inv .1),
+            omega arith,
+          ),
+        ),
+      ),
+    )
 
 loop-less : tie.Need-loop-less Inv-loop μ-loop
 loop-less c = omega arith
@@ -90,8 +118,11 @@ loop-again c =
     let v = a .n / 4000 in
     let j = o .j - 1 in
     let new = bitsFrom b (8 * (512 * (a .first + j) + 4)) 4000 in
-    let most = length-stringIn b (a .first) 0 (4000 * v) in
-    (omega arith, down-next (stringIn b (a .first) 0 (4000 * v)) new 0 _ _ (4000 * j) 4000 (4000 * o .j) (omega arith) (block-piece b (a .first) (4000 * v) j 4000 (omega arith) (omega arith)) (omega arith) (o .out) (o .low) (o .inv .1) _ _ (f .kept .1 .1 .1 .1 .1 .0) (placed-at new (4000 * j) _ _ _ _ (f .ensures)))
+    let most = length-stringIn b (a .first) 0 (4000 * v) in (
+      omega arith,
+      down-next (stringIn b (a .first) 0 (4000 * v)) new 0 _ _ (4000 * j) 4000 (4000 * o .j) (omega arith) (block-piece b (a .first) (4000 * v) j 4000 (omega arith) (omega arith))
+          (omega arith) (o .out) (o .low) (o .inv .1) _ _ (f .kept .1 .1 .1 .1 .1 .0) (placed-at new (4000 * j) _ _ _ _ (f .ensures)),
+    )
 
 same-length : tie.Need-same-length Inv-loop μ-loop
 same-length c = c .before .loop .inv .1 .size ∙ c .before .before .before .before .write-block-positions .kept .1 .1 .1 .1 .1 .0
@@ -109,7 +140,10 @@ returns c =
     let front = stringIn b (a .first) 0 (4000 * v) in
     let new = bitsFrom b (8 * (512 * (a .first + v) + 4)) r in
     let l = length-stringIn b (a .first) 0 (a .n) in
-    down-joined all front 0 (a .n) (a .out .now) (4000 * v) (stringIn-take b (a .first) (4000 * v) (a .n) (omega arith)) (omega arith) _ _ (last-down all new 0 (a .n) (a .out .now) (4000 * v) r (omega arith) (block-piece b (a .first) (a .n) v r (omega arith) (omega arith)) (p .1 .1 .1 .0) (p .1 .1 .1 .1) _ _ (f .kept .1 .1 .1 .1 .1 .0) (placed-at new (4000 * v) _ _ _ _ (f .ensures))) (o .out) (o .low) (o .inv .1 .size) (down-done front 0 _ _ (4000 * o .j) (o .out) (o .low) (omega arith) (o .inv .1))
+    down-joined all front 0 (a .n) (a .out .now) (4000 * v) (stringIn-take b (a .first) (4000 * v) (a .n) (omega arith)) (omega arith) _ _
+    (last-down all new 0 (a .n) (a .out .now) (4000 * v) r (omega arith) (block-piece b (a .first) (a .n) v r (omega arith) (omega arith)) (p .1 .1 .1 .0) (p .1 .1 .1 .1) _ _
+    (f .kept .1 .1 .1 .1 .1 .0) (placed-at new (4000 * v) _ _ _ _ (f .ensures)))
+    (o .out) (o .low) (o .inv .1 .size) (down-done front 0 _ _ (4000 * o .j) (o .out) (o .low) (omega arith) (o .inv .1))
 
 pub write-string-positions-spec : {M : Type 1} → statement M
 write-string-positions-spec =

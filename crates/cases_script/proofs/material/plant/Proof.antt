@@ -8,10 +8,10 @@ use Rattle.cases_script.proofs.material.plant.Statement.{statement}
 use Rattle.cases_script.proofs.material.plant.Tie as tie
 
 abbrev Inv-loop : tie.InvT-loop
-Inv-loop letter numbers parents₀ p₀ seed₀ i₀ i-end parents p seed i = (i ≤ i-end) × ((i-end ≡ length parents₀) × (length parents ≡ length parents₀))
+Inv-loop word numbers parents₀ p₀ seed₀ i₀ i-end parents p seed i = (i ≤ i-end) × ((i-end ≡ length parents₀) × (length parents ≡ length parents₀))
 
 abbrev μ-loop : tie.MeasureT-loop
-μ-loop letter numbers parents₀ p₀ seed₀ i₀ i-end parents p seed i = i-end - i
+μ-loop word numbers parents₀ p₀ seed₀ i₀ i-end parents p seed i = i-end - i
 
 loop-holds : tie.Need-loop-holds Inv-loop μ-loop
 loop-holds c = omega arith

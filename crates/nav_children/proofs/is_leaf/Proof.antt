@@ -1,9 +1,9 @@
--- `by_bit::is_leaf` meets its contract.
-use Rattle.by_bit.proofs.Bits.{leaf-given}
+-- `nav_children::is_leaf` meets its contract.
 use Rattle.bits_byte.proofs.Values.{value-le}
+use Rattle.nav_children.proofs.Families.{leaf-given}
 use borrow.Author.Needs.{needs}
-use Rattle.by_bit.proofs.is_leaf.Statement.{statement}
-use Rattle.by_bit.proofs.is_leaf.Tie as tie
+use Rattle.nav_children.proofs.is_leaf.Statement.{statement}
+use Rattle.nav_children.proofs.is_leaf.Tie as tie
 
 bit-r0-requires : tie.Need-bit-r0-requires
 bit-r0-requires c κs = search needs
@@ -15,10 +15,7 @@ sub-result : tie.Need-sub-result
 sub-result c = value-le _ (c .bit-r0 .result) (c .bit-r0 .ensures)
 
 returns : tie.Need-returns
-returns c =
-    let s = c .before .before in
-    let a = s .args in
-    leaf-given (a .b .now) (a .image) (s .pre .0) (a .x) (s .pre .1 .0) (s .pre .1 .1) (c .bit-r0 .result) (c .bit-r0 .ensures)
+returns c = leaf-given (c .before .before .pre) (c .bit-r0 .result) (c .bit-r0 .ensures)
 
 pub is-leaf-spec : {M : Type 1} → statement M
 is-leaf-spec = tie.close (tie.spec bit-r0-requires cast-result sub-result returns)

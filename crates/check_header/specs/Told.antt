@@ -1,0 +1,13 @@
+-- What reading the header tells.
+use mathlib.Core.Path.{_≡_}
+use mathlib.Core.List.{List}
+use Prim.Native.Nat.{ℕ}
+use Rattle.theory.specs.Stages.{Header, nodesOf, runsOf}
+use Rattle.image_layout.specs.Layout.{layoutOf}
+use Rattle.check_header.specs.declared.HeaderFound.{HeaderFound}
+use Rattle.check_header.specs.declared.HeaderFound.the-variants.{Right, Wrong}
+
+-- the header is right, and this is the layout that its n and m give; or it is wrong
+abbrev pub HeaderIs : HeaderFound → List ℕ → Type 0
+HeaderIs (Right layout) bytes = Header bytes × (layout ≡ layoutOf (nodesOf bytes) (runsOf bytes))
+HeaderIs Wrong bytes = Header bytes → ⊥
