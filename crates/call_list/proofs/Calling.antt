@@ -22,9 +22,9 @@ use Rattle.image_found.specs.Checked.{checked}
 use Rattle.image_found.proofs.Finding.{comesTo, rows-checked}
 use Rattle.list_measure.specs.declared.Measured.{Measured}
 use Rattle.list_measure.specs.declared.Measured.the-variants.{Fits, TooDeep}
-use Rattle.list_measure.specs.Levels.{low, sized, sizeOf, WhereFits}
+use Rattle.list_measure.specs.Levels.{onesBeforeIn, sized, sizeOf, WhereFits}
 use Rattle.list_measure.proofs.Levels.{listing-even, listing-less}
-use Rattle.list_measure.proofs.Numbers.{low-mono, low-kids, parents-count}
+use Rattle.list_measure.proofs.Numbers.{onesBeforeIn-mono, onesBeforeIn-kids, parents-count}
 
 -- ---- what is measured tells
 
@@ -118,10 +118,10 @@ module _ (bytes : List ℕ) (x : ℕ) (out : List ℕ) where
         size = fits-tells (deep pairs) (length pairs / 2) n (sym m) .1
 
         whole : length pairs ≡ 2 * n
-        whole = omega (arith, size, listing-even (parentsIn bytes) (low bytes) (low-mono bytes i e) (low-kids bytes i e) 65 x 0 some)
+        whole = omega (arith, size, listing-even (parentsIn bytes) (onesBeforeIn bytes) (onesBeforeIn-mono bytes i e) (onesBeforeIn-kids bytes i e) 65 x 0 some)
 
         less : pairs ≡ listing 64 (parentsIn bytes) x 0
-        less = listing-less (parentsIn bytes) (low bytes) (low-mono bytes i e) (low-kids bytes i e) x some none-deep
+        less = listing-less (parentsIn bytes) (onesBeforeIn bytes) (onesBeforeIn-mono bytes i e) (onesBeforeIn-kids bytes i e) x some none-deep
 
         of-fits : listImage bytes x out ≡ settle out (third ∷ []) counted after
         of-fits = of-node ∙ settle-on out counted after second (third ∷ []) (ap (ltb 0) none-deep)

@@ -16,5 +16,7 @@ use Rattle.calls.specs.Calls.{stringOfParents, parentsOfString, imageOfP
 use Rattle.calls.specs.Cases.{cases, Case}
 
 pub cases-hold : map (λ (c : Case). does (c .call)) cases ≡ map (λ (c : Case). c .back) cases
-unfolding cases does stringOfParents parentsOfString imageOfParents checkImage parentsOfImage askImage listImage splitPack joinPack wrongToSplit wrongToJoin parentRows checkRows packRows firstHolding settle badEntry R1 parentsOf stringOf bitsFrom leftover packed place starts sizes wrongBlock imageOfString isImage parentsIn notAllowed answerTo listing deep
+unfolding cases does stringOfParents parentsOfString imageOfParents checkImage parentsOfImage askImage listImage splitPack joinPack
+    wrongToSplit wrongToJoin parentRows checkRows packRows firstHolding settle
+    badEntry R1 parentsOf stringOf bitsFrom leftover packed place starts sizes wrongBlock imageOfString isImage parentsIn notAllowed answerTo listing deep
 cases-hold = refl

@@ -78,13 +78,16 @@ cases =
     ∷ parents-of-image imageT (room 7) gives counts 7 0 with (T ∷ [])
     -- 3
     ∷ string-of-parents (0 ∷ []) (room 1) gives counts 3 1 with ((0b10000000 ∷ []) ∷ [])
-    ∷ image-of-parents (0 ∷ []) (room 2560) gives counts 1 1 with ((block (1 ∷ 1 ∷ 1 ∷ 5 ∷ []) 8 990 ++ block (0 ∷ 0b10000000 ∷ []) 129 16126 ++ block (0 ∷ 0b01000000 ∷ []) 66 8252 ++ block (1 ∷ []) 4 504 ++ block (2 ∷ []) 6 756) ∷ [])
+    ∷ image-of-parents (0 ∷ []) (room 2560)
+    gives counts 1 1 with ((block (1 ∷ 1 ∷ 1 ∷ 5 ∷ []) 8 990 ++ block (0 ∷ 0b10000000 ∷ []) 129 16126 ++ block (0 ∷ 0b01000000 ∷ []) 66 8252 ++ block (1 ∷ []) 4 504 ++ block (2 ∷ []) 6 756) ∷ [])
     -- 4
     ∷ string-of-parents (0 ∷ 1 ∷ 2 ∷ []) (room 1) gives counts 7 1 with ((0b10101000 ∷ []) ∷ [])
-    ∷ image-of-parents (0 ∷ 1 ∷ 2 ∷ []) (room 2560) gives counts 3 3 with ((block (1 ∷ 3 ∷ 3 ∷ 5 ∷ []) 12 1488 ++ block (0 ∷ 0b11100000 ∷ []) 225 28126 ++ block (0 ∷ 0b11010000 ∷ []) 210 26252 ++ block (1 ∷ []) 4 504 ++ block (1 ∷ []) 5 630) ∷ [])
+    ∷ image-of-parents (0 ∷ 1 ∷ 2 ∷ []) (room 2560)
+    gives counts 3 3 with ((block (1 ∷ 3 ∷ 3 ∷ 5 ∷ []) 12 1488 ++ block (0 ∷ 0b11100000 ∷ []) 225 28126 ++ block (0 ∷ 0b11010000 ∷ []) 210 26252 ++ block (1 ∷ []) 4 504 ++ block (1 ∷ []) 5 630) ∷ [])
     -- 5
     ∷ string-of-parents (0 ∷ 1 ∷ 1 ∷ 1 ∷ []) (room 2) gives counts 9 1 with ((0b10111000 ∷ 0 ∷ []) ∷ [])
-    ∷ image-of-parents (0 ∷ 1 ∷ 1 ∷ 1 ∷ []) (room 2560) gives counts 4 2 with ((block (1 ∷ 4 ∷ 2 ∷ 5 ∷ []) 12 1489 ++ block (0 ∷ 0b10010000 ∷ []) 145 18126 ++ block (0 ∷ 0b10001000 ∷ []) 138 17252 ++ block (1 ∷ []) 4 504 ++ block (1 ∷ []) 5 630) ∷ [])
+    ∷ image-of-parents (0 ∷ 1 ∷ 1 ∷ 1 ∷ []) (room 2560)
+    gives counts 4 2 with ((block (1 ∷ 4 ∷ 2 ∷ 5 ∷ []) 12 1489 ++ block (0 ∷ 0b10010000 ∷ []) 145 18126 ++ block (0 ∷ 0b10001000 ∷ []) 138 17252 ++ block (1 ∷ []) 4 504 ++ block (1 ∷ []) 5 630) ∷ [])
     -- 6
     ∷ string-of-parents (0 ∷ 1 ∷ 2 ∷ 1 ∷ []) (room 2) gives code 3 place 4 with (room 2 ∷ [])
     ∷ image-of-parents (0 ∷ 2 ∷ []) (room 1) gives code 3 place 2 with (room 1 ∷ [])

@@ -15,7 +15,7 @@ use Rattle.bits_byte.proofs.Values.{is-O, is-I}
 use Rattle.image_string.specs.Parts.{Counted, onesTo}
 use Rattle.image_string.proofs.Ones.{onesTo-take, onesTo-mono, onesTo-block, string-at}
 use Rattle.check_runs_words.specs.Steps.{StepAt}
-use Rattle.check_samples.specs.Samples.{Placed}
+use Rattle.check_counts_and_samples.specs.Samples.{Placed}
 use Rattle.check_runs_samples.specs.Ahead.{Ahead}
 use Rattle.check_runs.specs.Steps.{StepWithin}
 

@@ -10,7 +10,7 @@ ghost use Rattle.theory.specs.Layout.{wordAt};
 ghost use Rattle.theory.specs.Stages.{InStep};
 ghost use Rattle.image_layout.specs.Fits.{LaidOut};
 ghost use Rattle.image_string.specs.Parts.{Counted, onesTo};
-ghost use Rattle.check_samples.specs.Samples.{Placed};
+ghost use Rattle.check_counts_and_samples.specs.Samples.{Placed};
 ghost use Rattle.check_runs.specs.Steps.{StepWithin};
 use bits_count::ones_without;
 use check_runs_samples::samples_ahead;

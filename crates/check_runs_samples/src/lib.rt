@@ -7,10 +7,8 @@ use image_layout::sample_at;
 use image_words::word;
 
 // Of R1's ones after the first `before` up to number `end`: has R0, where the one of a sample is,
-// the
-// one of its sample `by` further on? One in `by` samples is looked at; R0 is then ahead by more
-// than
-// the ones between two that are.
+// the one of its sample `by` further on? One in `by` samples is looked at; R0 is then ahead by more
+// than the ones between two that are.
 pub fn samples_ahead(b: &[u8], layout: Layout, before: usize, end: usize, by: usize) -> bool
     requires { ⌜ LaidOut (now b) layout ⌝ }
     requires { ⌜ layout .runs ≤ 65536 ⌝ }

@@ -36,7 +36,8 @@ fn bits_in_step(b: &[u8], at1: usize, at0: usize, n: usize, ones1: usize, ones0:
     true
 }
 
-// The same of a byte, where R1 has `more` ones in it.
+// Of a byte of R1 at `at1`, which `ones1` ones come before, and a byte of R0 at `at0`, which `ones0`
+// come before: is R1 in step with R0 at each bit? R1 has `more` ones in its byte.
 fn byte_in_step(b: &[u8], at1: usize, at0: usize, ones1: usize, ones0: usize, more: usize) -> bool
     requires { ⌜ length (now b) ≤ 512 * mostBlock ⌝ }
     requires { ⌜ at1 + 1 ≤ length (now b) ⌝ }
@@ -53,7 +54,8 @@ fn byte_in_step(b: &[u8], at1: usize, at0: usize, ones1: usize, ones0: usize, mo
     bits_in_step(b, at1, at0, 8, ones1, ones0)
 }
 
-// The same of n bits, byte by byte.
+// Of n bits of R1 from byte `at1` on, which `ones1` ones come before, and n of R0 from `at0` on,
+// which `ones0` come before: is R1 in step with R0 at each of them? Byte by byte.
 pub fn bytes_in_step(b: &[u8], at1: usize, at0: usize, n: usize, ones1: usize, ones0: usize) -> bool
     requires { ⌜ length (now b) ≤ 512 * mostBlock ⌝ }
     requires { ⌜ n ≤ 64 ⌝ }

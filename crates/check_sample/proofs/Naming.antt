@@ -32,15 +32,15 @@ module _ (bytes : List ℕ) (at : ℕ) where
     ]
   ]
 
--- one number nth of n bits that i bits come before
-module _ (bytes : List ℕ) (at n i nth place : ℕ) where
-  pub named : i < place → bitAt bytes (8 * at + (place - i - 1)) ≡ I → ones (bitsFrom bytes (8 * at) (place - i - 1)) + 1 ≡ nth → NamesOne bytes at n i nth place
+-- one number nth of n bits, the first of which has position `first`
+module _ (bytes : List ℕ) (at n first nth place : ℕ) where
+  pub named : first ≤ place → bitAt bytes (8 * at + (place - first)) ≡ I → ones (bitsFrom bytes (8 * at) (place - first)) + 1 ≡ nth → NamesOne bytes at n first nth place
   named h e c q l f d =
-      let g : place - i - 1 ≡ q = same-one bytes at (place - i - 1) q e f (omega arith) in
+      let g : place - first ≡ q = same-one bytes at (place - first) q e f (omega arith) in
       omega arith
 
-  module _ (some : 1 ≤ nth) (few : nth ≤ ones (bitsFrom bytes (8 * at) n)) (all : NamesOne bytes at n i nth place) where
-    there : (p : ℕ) × (bitAt bytes (8 * at + p) ≡ I) × (ones (bitsFrom bytes (8 * at) p) + 1 ≡ nth) × (place ≡ i + p + 1) × (p < n)
+  module _ (some : 1 ≤ nth) (few : nth ≤ ones (bitsFrom bytes (8 * at) n)) (all : NamesOne bytes at n first nth place) where
+    there : (p : ℕ) × (bitAt bytes (8 * at + p) ≡ I) × (ones (bitsFrom bytes (8 * at) p) + 1 ≡ nth) × (place ≡ first + p) × (p < n)
     there =
         let o = one-there (bitsFrom bytes (8 * at) n) (nth - 1) (omega arith) in
         let p = o .0 in
@@ -50,13 +50,13 @@ module _ (bytes : List ℕ) (at n i nth place : ℕ) where
         (p, e, c, all p l e c, l)
 
     -- what a right sample tells: it lies among the bits, at a one that is number nth
-    pub named-inside : (i < place) × (place ≤ i + n)
+    pub named-inside : (first ≤ place) × (place < first + n)
     named-inside = let o = there in (omega (arith, o .3), omega (arith, o .3, o .4))
 
-    pub named-one : (bitAt bytes (8 * at + (place - i - 1)) ≡ I) × (ones (bitsFrom bytes (8 * at) (place - i - 1)) + 1 ≡ nth)
+    pub named-one : (bitAt bytes (8 * at + (place - first)) ≡ I) × (ones (bitsFrom bytes (8 * at) (place - first)) + 1 ≡ nth)
     named-one =
         let o = there in
-        let e : o .0 ≡ place - i - 1 = omega (arith, o .3) in
+        let e : o .0 ≡ place - first = omega (arith, o .3) in
         (ap (λ p. bitAt bytes (8 * at + p)) (sym e) ∙ o .1, ap (λ p. ones (bitsFrom bytes (8 * at) p) + 1) (sym e) ∙ o .2)
 
 -- bit o in its word of eight bytes: t ones before the word, and r from its beginning up to the bit,

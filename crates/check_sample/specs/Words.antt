@@ -7,11 +7,11 @@ use Rattle.meaning.specs.Bytes.{bitAt, bitsFrom}
 use Rattle.theory.specs.Layout.{sampleIn}
 use Rattle.theory.specs.Stages.{blocksOfSamples}
 
--- of n bits from byte `at` on, which i bits of their string come before: the position of one number
--- `nth` of them, from 1
+-- of n bits from byte `at` on, the first of which has position `first` in their string: the position
+-- of one number `nth` of them, from 1
 abbrev pub NamesOne : List ℕ → ℕ → ℕ → ℕ → ℕ → ℕ → Type 0
-NamesOne bytes at n i nth place =
-    (p : ℕ) → p < n → bitAt bytes (8 * at + p) ≡ I → ones (bitsFrom bytes (8 * at) p) + 1 ≡ nth → place ≡ i + p + 1
+NamesOne bytes at n first nth place =
+    (p : ℕ) → p < n → bitAt bytes (8 * at + p) ≡ I → ones (bitsFrom bytes (8 * at) p) + 1 ≡ nth → place ≡ first + p
 
 -- m ones have (m + 63) / 64 samples; zeros in the words after those
 abbrev pub RestZero : List ℕ → ℕ → ℕ → Type 0

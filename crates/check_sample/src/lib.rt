@@ -1,5 +1,4 @@
 // One sample: does it name the right bit? And are the words after the last sample zero?
-// the last zero?
 ghost use Prim.Native.Nat.{_+_, _*_, _≤_};
 ghost use lib.ListN.{length};
 ghost use Rattle.theory.specs.Bounds.{mostBlock};
@@ -14,37 +13,37 @@ use bits_count::ones_ending;
 use image_string::all_zero;
 use image_words::word;
 
-// Bits of a string in an image: so many from byte `at` on, which `earlier` bits of the string come
-// before.
+// Bits of a string in an image: so many from byte `at` on, the first of which has position `first`
+// in the string, counted from 1.
 pub struct Piece {
     pub at: usize,
     pub bits: usize,
-    pub earlier: usize,
+    pub first: usize,
 }
 
 // Does the sample at byte p name one number `nth` of the piece, counted from 1?
 pub fn sample_right(b: &[u8], p: usize, piece: Piece, nth: usize, table: &[u32; 63]) -> bool
     requires { ⌜ piece .at ≤ 1024 * mostBlock ⌝ }
     requires { ⌜ piece .bits ≤ 4000 ⌝ }
-    requires { ⌜ piece .earlier ≤ 65536 ⌝ }
+    requires { ⌜ piece .first ≤ 65537 ⌝ }
     requires { ⌜ 1 ≤ nth ⌝ }
     requires { ⌜ nth ≤ ones (bitsFrom (now b) (8 * piece .at) (piece .bits)) ⌝ }
     requires { ⌜ p + 4 ≤ length (now b) ⌝ }
     requires { ⌜ piece .at + 504 ≤ length (now b) ⌝ }
     requires { ⌜ CountsBefore (now b) (piece .at) (now table) ⌝ }
-    ensures { λ r. ⌜ Decides r (NamesOne (now (b .entry)) (piece .at) (piece .bits) (piece .earlier) nth (wordAt (now (b .entry)) p)) ⌝ }
+    ensures { λ r. ⌜ Decides r (NamesOne (now (b .entry)) (piece .at) (piece .bits) (piece .first) nth (wordAt (now (b .entry)) p)) ⌝ }
 {
     let at = piece.at;
     let n = piece.bits;
-    let i = piece.earlier;
+    let first = piece.first;
     let place = word(b, p) as usize;
-    if place <= i {
+    if place < first {
         return false;
     }
-    if i + n < place {
+    let o = place - first;
+    if n <= o {
         return false;
     }
-    let o = place - i - 1;
     let upto = ones_ending(b, at + 8 * (o / 64), o % 64) as usize;
     // no one is there
     if upto == 0 {
@@ -54,17 +53,17 @@ pub fn sample_right(b: &[u8], p: usize, piece: Piece, nth: usize, table: &[u32; 
 }
 
 // Are the words of the samples' blocks zero after the last sample of m ones?
-pub fn words_zero(b: &[u8], from: usize, m: u32) -> bool
+pub fn words_zero(b: &[u8], samples: usize, m: u32) -> bool
     requires { ⌜ m ≤ 65536 ⌝ }
-    requires { ⌜ from ≤ mostBlock ⌝ }
-    requires { ⌜ 512 * (from + blocksOfSamples m) ≤ length (now b) ⌝ }
-    ensures { λ r. ⌜ Decides r (RestZero (now (b .entry)) from m) ⌝ }
+    requires { ⌜ samples ≤ mostBlock ⌝ }
+    requires { ⌜ 512 * (samples + blocksOfSamples m) ≤ length (now b) ⌝ }
+    ensures { λ r. ⌜ Decides r (RestZero (now (b .entry)) samples m) ⌝ }
 {
-    let samples = (m as usize + 63) / 64;
+    let count = (m as usize + 63) / 64;
     // the last block is full
-    if samples % 126 == 0 {
+    if count % 126 == 0 {
         return true;
     }
-    let at = 512 * (from + samples / 126);
-    all_zero(b, at + 4 * (samples % 126), at + 504)
+    let at = 512 * (samples + count / 126);
+    all_zero(b, at + 4 * (count % 126), at + 504)
 }

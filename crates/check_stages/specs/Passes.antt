@@ -4,7 +4,7 @@ use Prim.Native.Nat.{ℕ, _+_}
 use Rattle.meaning.specs.Image.{stringIn}
 use Rattle.theory.specs.Stages.{InStep, Sampled}
 use Rattle.image_layout.specs.declared.Layout.{Layout}
-use Rattle.check_counts.specs.Parts.{StringRight}
+use Rattle.check_ends.specs.Parts.{StringRight}
 
 -- both strings are right, at the blocks of the layout, and so are their samples
 pub record StringsPass (bytes : List ℕ) (layout : Layout) : Type 0 where

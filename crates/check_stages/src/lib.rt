@@ -2,10 +2,10 @@
 ghost use Rattle.image_layout.specs.Fits.{LaidOut};
 ghost use Rattle.image_string.specs.Decides.{Decides};
 ghost use Rattle.check_stages.specs.Passes.{StringsPass};
-use check_counts::string_right;
+use check_counts_and_samples::full_blocks_right;
+use check_counts_and_samples::samples_right;
+use check_ends::string_right;
 use check_runs::in_step;
-use check_samples::full_blocks_right;
-use check_samples::samples_right;
 use image_layout::Layout;
 
 // Do the two strings of an image and their samples pass, at the blocks of its layout?

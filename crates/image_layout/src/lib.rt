@@ -43,6 +43,14 @@ pub fn sample_at(samples: usize, s: usize) -> usize
     512 * (samples + s / 126) + 4 * (s % 126)
 }
 
+// The first byte of the bits that a block of a string holds, after its word for the earlier ones.
+pub fn bits_at(block: usize) -> usize
+    requires { ⌜ block ≤ mostBlock + mostBlock ⌝ }
+    ensures { λ r. ⌜ r ≡ 512 * block + 4 ⌝ }
+{
+    512 * block + 4
+}
+
 // Which block of a string of n bits is the last, from 0.
 pub fn last_block(n: usize) -> usize
     requires { ⌜ 1 ≤ n ⌝ }

@@ -7,15 +7,16 @@ ghost use Rattle.meaning.specs.Bytes.{bitAt, value};
 ghost use Rattle.image_string.specs.Decides.{Decides};
 ghost use Rattle.image_string.specs.Parts.{ZeroBytes};
 use bits_byte::bit_at;
+use image_layout::bits_at;
 
-// Bit i of the string whose blocks begin at block `first`.
-pub fn string_bit(b: &[u8], first: usize, i: usize) -> u8
+// Bit i of the string whose blocks begin at block `bits_block`.
+pub fn string_bit(b: &[u8], bits_block: usize, i: usize) -> u8
     requires { ⌜ i ≤ 4000 * mostBlock ⌝ }
-    requires { ⌜ first ≤ mostBlock ⌝ }
-    requires { ⌜ 512 * (first + i / 4000 + 1) ≤ length (now b) ⌝ }
-    ensures { λ r. ⌜ r ≡ value (bitAt (now (b .entry)) (8 * (512 * (first + i / 4000) + 4) + i % 4000)) ⌝ }
+    requires { ⌜ «bits_block» ≤ mostBlock ⌝ }
+    requires { ⌜ 512 * («bits_block» + i / 4000 + 1) ≤ length (now b) ⌝ }
+    ensures { λ r. ⌜ r ≡ value (bitAt (now (b .entry)) (8 * (512 * («bits_block» + i / 4000) + 4) + i % 4000)) ⌝ }
 {
-    bit_at(b, 8 * (512 * (first + i / 4000) + 4) + i % 4000)
+    bit_at(b, 8 * bits_at(bits_block + i / 4000) + i % 4000)
 }
 
 // Are the bytes from `from` to before `to` all zero? It looks at every one, whatever it finds, so

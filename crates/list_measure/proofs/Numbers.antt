@@ -15,7 +15,7 @@ use Rattle.meaning.specs.Bytes.{value}
 use Rattle.meaning.specs.Image.{parentsIn}
 use Rattle.meaning.specs.Questions.{leaf, isNone, childrenOf, answer}
 use Rattle.theory.specs.Rank.{onesBefore, counting}
-use Rattle.theory.specs.ByStrings.{whereZero, bitOf, before, byStrings}
+use Rattle.theory.specs.ByStrings.{whereZero, bitOf, onesBeforeBy, byStrings}
 use Rattle.theory.specs.Stages.{readR1, readR0, nodesOf}
 use Rattle.theory.proofs.Bits.{I≢O}
 use Rattle.theory.proofs.Scan.{nodes-ones}
@@ -30,7 +30,7 @@ use Rattle.image_found.specs.Checked.{checked}
 use Rattle.image_found.proofs.Finding.{sound-known}
 use Rattle.bits_byte.proofs.Values.{is-O, is-I}
 use Rattle.nav_sibling_range.proofs.Own.{strings}
-use Rattle.list_measure.specs.Levels.{low}
+use Rattle.list_measure.specs.Levels.{onesBeforeIn}
 
 -- ---- of any bits
 
@@ -69,29 +69,29 @@ module _ (bytes : List ℕ) (i : Layout) (found : checked bytes ≡ Sound i) whe
       let p : parentsIn bytes ≡ parents t = ap parentsIn (sym (r .2)) ∙ parents-in t (r .1) in
       (t, r .1, p, ap stringOf p ∙ string-parents t, sym parents-count ∙ ap length p ∙ length-parents t)
 
-  pub low-mono : (z : ℕ) → low bytes z ≤ low bytes (suc z)
-  unfolding low
-  low-mono z = onesBefore-mono (stringOf (parentsIn bytes)) z
+  pub onesBeforeIn-mono : (z : ℕ) → onesBeforeIn bytes z ≤ onesBeforeIn bytes (suc z)
+  unfolding onesBeforeIn
+  onesBeforeIn-mono z = onesBefore-mono (stringOf (parentsIn bytes)) z
 
-  pub low-upto : (y z : ℕ) → y ≤ z → low bytes y ≤ low bytes z
-  low-upto y z h = subst (λ k. low bytes y ≤ low bytes k) (let e : y + (z - y) ≡ z = omega arith in e) (go (z - y))
+  pub onesBeforeIn-upto : (y z : ℕ) → y ≤ z → onesBeforeIn bytes y ≤ onesBeforeIn bytes z
+  onesBeforeIn-upto y z h = subst (λ k. onesBeforeIn bytes y ≤ onesBeforeIn bytes k) (let e : y + (z - y) ≡ z = omega arith in e) (go (z - y))
     where
-      go : (m : ℕ) → low bytes y ≤ low bytes (y + m)
-      go zero = omega (arith, ap (low bytes) (let e : y ≡ y + 0 = omega arith in e))
-      go (suc m) = omega (arith, go m, low-mono (y + m), ap (low bytes) (let e : suc (y + m) ≡ y + suc m = omega arith in e))
+      go : (m : ℕ) → onesBeforeIn bytes y ≤ onesBeforeIn bytes (y + m)
+      go zero = omega (arith, ap (onesBeforeIn bytes) (let e : y ≡ y + 0 = omega arith in e))
+      go (suc m) = omega (arith, go m, onesBeforeIn-mono (y + m), ap (onesBeforeIn bytes) (let e : suc (y + m) ≡ y + suc m = omega arith in e))
 
-  pub low-most : (z : ℕ) → low bytes z ≤ i .nodes
-  unfolding low
-  low-most z = let r = tree in omega (arith, before-most (stringOf (parentsIn bytes)) z, ap ones (r .3), nodes-ones (r .0), r .4)
+  pub onesBeforeIn-most : (z : ℕ) → onesBeforeIn bytes z ≤ i .nodes
+  unfolding onesBeforeIn
+  onesBeforeIn-most z = let r = tree in omega (arith, before-most (stringOf (parentsIn bytes)) z, ap ones (r .3), nodes-ones (r .0), r .4)
 
-  pub low-kids : (x : ℕ) → childrenOf (parentsIn bytes) x ≡ counting (suc (low bytes x)) (low bytes (suc x) - low bytes x)
-  unfolding low
-  low-kids x =
+  pub onesBeforeIn-kids : (x : ℕ) → childrenOf (parentsIn bytes) x ≡ counting (suc (onesBeforeIn bytes x)) (onesBeforeIn bytes (suc x) - onesBeforeIn bytes x)
+  unfolding onesBeforeIn
+  onesBeforeIn-kids x =
       let r = tree in
       let t = r .0 in
-      let e : (z : ℕ) → onesBefore (lbs t) z ≡ low bytes z = λ z. ap (λ s. onesBefore s z) (sym (r .3)) in
+      let e : (z : ℕ) → onesBefore (lbs t) z ≡ onesBeforeIn bytes z = λ z. ap (λ s. onesBefore s z) (sym (r .3)) in
       ap (λ ps. childrenOf ps x) (r .2) ∙ children-are t x
-      ∙ counted (1 + onesBefore (lbs t) x) (suc (low bytes x)) (onesBefore (lbs t) (suc x) - onesBefore (lbs t) x) (low bytes (suc x) - low bytes x)
+      ∙ counted (1 + onesBefore (lbs t) x) (suc (onesBeforeIn bytes x)) (onesBefore (lbs t) (suc x) - onesBefore (lbs t) x) (onesBeforeIn bytes (suc x) - onesBeforeIn bytes x)
       (omega (arith, e x)) (omega (arith, e x, e (suc x)))
 
   -- its strings are those of the tree
@@ -101,17 +101,17 @@ module _ (bytes : List ℕ) (i : Layout) (found : checked bytes ≡ Sound i) whe
   read0 : readR0 bytes ≡ R0 (lbs (tree .0))
   read0 = sym (parts-read bytes (sound-known bytes i found .image) .second) ∙ ap R0 (tree .3)
 
-  is-low : (z : ℕ) → onesBefore (lbs (tree .0)) z ≡ low bytes z
-  unfolding low
-  is-low z = ap (λ s. onesBefore s z) (sym (tree .3))
+  is-in : (z : ℕ) → onesBefore (lbs (tree .0)) z ≡ onesBeforeIn bytes z
+  unfolding onesBeforeIn
+  is-in z = ap (λ s. onesBefore s z) (sym (tree .3))
 
-  pub before-low : (z : ℕ) → 1 ≤ z → z ≤ i .nodes + 1 → before (readR1 bytes) (readR0 bytes) z ≡ low bytes z
-  unfolding before
-  before-low z g h =
+  pub by-is-in : (z : ℕ) → 1 ≤ z → z ≤ i .nodes + 1 → onesBeforeBy (readR1 bytes) (readR0 bytes) z ≡ onesBeforeIn bytes z
+  unfolding onesBeforeBy
+  by-is-in z g h =
       let t = tree .0 in
-      ap₂ (λ a b. before a b z) read1 read0 ∙ go t z g (omega (arith, tree .4, nodes-ones t, tree-counts t)) ∙ is-low z
+      ap₂ (λ a b. onesBeforeBy a b z) read1 read0 ∙ go t z g (omega (arith, tree .4, nodes-ones t, tree-counts t)) ∙ is-in z
     where
-      go : (t : Tree) (z : ℕ) → 1 ≤ z → z ≤ suc (ones (lbs t)) → before (R1 (lbs t)) (R0 (lbs t)) z ≡ onesBefore (lbs t) z
+      go : (t : Tree) (z : ℕ) → 1 ≤ z → z ≤ suc (ones (lbs t)) → onesBeforeBy (R1 (lbs t)) (R0 (lbs t)) z ≡ onesBefore (lbs t) z
       go t zero g h = absurd (omega arith)
       go t (suc z) g h = sym (ones-before-is t (suc z) g (omega (arith, tree-counts t)))
 
@@ -119,39 +119,39 @@ module _ (bytes : List ℕ) (i : Layout) (found : checked bytes ≡ Sound i) whe
 
   -- node x has a child exactly if R0 has 1 at x
   pub child-mark : (x mark : ℕ) → 1 ≤ x → x ≤ i .nodes → mark ≡ value (bitOf (readR0 bytes) x)
-      → (mark ≡ 0 → low bytes (x + 1) ≡ low bytes x) × ((mark ≡ 0 → ⊥) → low bytes x < low bytes (x + 1))
+      → (mark ≡ 0 → onesBeforeIn bytes (x + 1) ≡ onesBeforeIn bytes x) × ((mark ≡ 0 → ⊥) → onesBeforeIn bytes x < onesBeforeIn bytes (x + 1))
   unfolding answer byStrings
   child-mark x mark g h e =
-      let f = ap (λ cs. isNone (length cs)) (sym (low-kids x)) ∙ strings bytes i found .own leaf x (pos 0) g h in
-      let r = some-or-none (bitOf (readR0 bytes) x) (suc (low bytes x)) (low bytes (suc x) - low bytes x) mark f e in
-      let m = low-mono x in
-      let k = ap (low bytes) (add-one x) in
+      let f = ap (λ cs. isNone (length cs)) (sym (onesBeforeIn-kids x)) ∙ strings bytes i found .own leaf x (pos 0) g h in
+      let r = some-or-none (bitOf (readR0 bytes) x) (suc (onesBeforeIn bytes x)) (onesBeforeIn bytes (suc x) - onesBeforeIn bytes x) mark f e in
+      let m = onesBeforeIn-mono x in
+      let k = ap (onesBeforeIn bytes) (add-one x) in
       (λ z. let q = r .0 z in omega arith, λ z. let q = r .1 z in omega arith)
 
   -- of the children of node x, y is the last exactly if R1 has 1 at y
-  pub last-mark : (x y mark : ℕ) → low bytes x < y → y ≤ low bytes (x + 1) → mark ≡ value (bitOf (readR1 bytes) y)
-      → (mark ≡ 0 → y < low bytes (x + 1)) × ((mark ≡ 0 → ⊥) → y ≡ low bytes (x + 1))
+  pub last-mark : (x y mark : ℕ) → onesBeforeIn bytes x < y → y ≤ onesBeforeIn bytes (x + 1) → mark ≡ value (bitOf (readR1 bytes) y)
+      → (mark ≡ 0 → y < onesBeforeIn bytes (x + 1)) × ((mark ≡ 0 → ⊥) → y ≡ onesBeforeIn bytes (x + 1))
   last-mark x zero mark g h e = absurd (omega arith)
   last-mark x (suc y) mark g h e =
       let t = tree .0 in
-      let r = ranked t y (omega (arith, low-most (x + 1), tree .4, nodes-ones t)) in
+      let r = ranked t y (omega (arith, onesBeforeIn-most (x + 1), tree .4, nodes-ones t)) in
       let p = entry (parents t) (suc y) in
-      let same : p ≡ x = only p (omega (arith, r .above, is-low p)) (omega (arith, r .upto, is-low (suc p), ap (low bytes) (add-one p))) in
+      let same : p ≡ x = only p (omega (arith, r .above, is-in p)) (omega (arith, r .upto, is-in (suc p), ap (onesBeforeIn bytes) (add-one p))) in
       let bit : bitOf (readR1 bytes) (suc y) ≡ getD (R1 (lbs t)) (suc y - 1) I = ap (λ s. bitOf s (suc y)) read1 in
-      let end : onesBefore (lbs t) (suc p) ≡ low bytes (x + 1) = is-low (suc p) ∙ ap (low bytes) (let q : suc p ≡ x + 1 = omega arith in q) in (
+      let end : onesBefore (lbs t) (suc p) ≡ onesBeforeIn bytes (x + 1) = is-in (suc p) ∙ ap (onesBeforeIn bytes) (let q : suc p ≡ x + 1 = omega arith in q) in (
         λ z. omega (arith, r .next .0 (sym bit ∙ is-O (bitOf (readR1 bytes) (suc y)) mark e z)),
-        λ z. elim (decLt (suc y) (low bytes (x + 1))) [
+        λ z. elim (decLt (suc y) (onesBeforeIn bytes (x + 1))) [
           | yes l ↦ I≢O (sym (is-I (bitOf (readR1 bytes) (suc y)) mark e z) ∙ bit ∙ r .next .1 (omega arith))
           | no l ↦ omega arith
         ],
       )
     where
       -- the one parent
-      only : (p : ℕ) → low bytes p < suc y → suc y ≤ low bytes (p + 1) → p ≡ x
+      only : (p : ℕ) → onesBeforeIn bytes p < suc y → suc y ≤ onesBeforeIn bytes (p + 1) → p ≡ x
       only p above upto = elim (decLt p x) [
-        | yes l ↦ absurd (omega (arith, low-upto (p + 1) x (omega arith)))
+        | yes l ↦ absurd (omega (arith, onesBeforeIn-upto (p + 1) x (omega arith)))
         | no l ↦ elim (decLt x p) [
-          | yes m ↦ absurd (omega (arith, low-upto (x + 1) p (omega arith)))
+          | yes m ↦ absurd (omega (arith, onesBeforeIn-upto (x + 1) p (omega arith)))
           | no m ↦ omega arith
         ]
       ]

@@ -13,12 +13,12 @@ use Rattle.list_measure.specs.declared.Measured.the-variants.{Fits, TooD
 
 -- the ones before zero z of the string of an image's tree: node x has its children after those
 -- before zero x, up to those before zero x + 1
-unfoldable pub low : List ℕ → ℕ → ℕ
-low bytes z = onesBefore (stringOf (parentsIn bytes)) z
+unfoldable pub onesBeforeIn : List ℕ → ℕ → ℕ
+onesBeforeIn bytes z = onesBefore (stringOf (parentsIn bytes)) z
 
 -- so the nodes after a, up to z, have their children after `below a`, up to `below z`
 abbrev pub below : List ℕ → ℕ → ℕ
-below bytes a = low bytes (a + 1)
+below bytes a = onesBeforeIn bytes (a + 1)
 
 -- how many nodes are listed, or the first node at depth 64
 abbrev pub sized : ℕ → ℕ → Measured

@@ -16,11 +16,11 @@ use Rattle.image_found.specs.declared.Checked.the-variants.{Sound}
 use Rattle.image_found.specs.Checked.{checked}
 use Rattle.image_found.proofs.Finding.{sound-known}
 use Rattle.nav_strings.specs.Nodes.{IsNode}
-use Rattle.list_measure.specs.Levels.{low, below}
+use Rattle.list_measure.specs.Levels.{onesBeforeIn, below}
 use Rattle.list_measure.specs.Cursors.{CursorsReady}
 use Rattle.list_write.specs.Writing.{MovedOn, pairsOf, ToList, Listed}
 use Rattle.list_measure.proofs.Levels.{listing-node}
-use Rattle.list_measure.proofs.Numbers.{low-mono, low-kids}
+use Rattle.list_measure.proofs.Numbers.{onesBeforeIn-mono, onesBeforeIn-kids}
 use Rattle.list_write.proofs.Cursors.{Along, along-more, above-stay, ready-below}
 
 -- ---- listings, one after the other
@@ -41,14 +41,14 @@ listings-step ps f d a z h =
 
 -- a node, and then its children, where f of the 64 levels are left
 pub listing-step : (bytes : List ℕ) (i : Layout) → checked bytes ≡ Sound i → (f x : ℕ) → 1 ≤ f → f ≤ 64
-    → pairsOf bytes f x ≡ x ∷ (64 - f) ∷ listings (parentsIn bytes) (f - 1) (64 - (f - 1)) (low bytes x) (low bytes (x + 1))
+    → pairsOf bytes f x ≡ x ∷ (64 - f) ∷ listings (parentsIn bytes) (f - 1) (64 - (f - 1)) (onesBeforeIn bytes x) (onesBeforeIn bytes (x + 1))
 unfolding listings
 listing-step bytes i found f x some most =
     let ps = parentsIn bytes in
     ap (λ k. listing k ps x (64 - f)) (let q : f ≡ suc (f - 1) = omega arith in q)
-    ∙ listing-node ps (low bytes) (low-mono bytes i found) (low-kids bytes i found) (f - 1) x (64 - f)
-    ∙ ap₂ (λ k z. x ∷ (64 - f) ∷ forEach (λ c. listing (f - 1) ps c k) (counting (suc (low bytes x)) (z - low bytes x)))
-    (let q : suc (64 - f) ≡ 64 - (f - 1) = omega arith in q) (ap (low bytes) (sym (add-one x)))
+    ∙ listing-node ps (onesBeforeIn bytes) (onesBeforeIn-mono bytes i found) (onesBeforeIn-kids bytes i found) (f - 1) x (64 - f)
+    ∙ ap₂ (λ k z. x ∷ (64 - f) ∷ forEach (λ c. listing (f - 1) ps c k) (counting (suc (onesBeforeIn bytes x)) (z - onesBeforeIn bytes x)))
+    (let q : suc (64 - f) ≡ 64 - (f - 1) = omega arith in q) (ap (onesBeforeIn bytes) (sym (add-one x)))
 
 -- ---- the node that is listed first, with all 64 levels left and none of its siblings
 
@@ -100,24 +100,24 @@ back w o fits out p ys n e en ey =
 pub record Going (bytes : List ℕ) (x left : ℕ) (cs₀ out₀ cs out : List ℕ) (filled a : ℕ) : Type 0 where
   pub w : List ℕ
   pub front : out ≡ written w out₀
-  pub whole : w ++ listings (parentsIn bytes) (left - 1) (64 - (left - 1)) a (low bytes (x + 1)) ≡ pairsOf bytes left x
+  pub whole : w ++ listings (parentsIn bytes) (left - 1) (64 - (left - 1)) a (onesBeforeIn bytes (x + 1)) ≡ pairsOf bytes left x
   pub many : filled ≡ length w
-  pub from : low bytes x ≤ a
+  pub from : onesBeforeIn bytes x ≤ a
   pub count : length cs ≡ 64
   pub above : take (65 - left) cs ≡ take (65 - left) cs₀
   pub along : Along bytes x (65 - left) cs₀ cs a
 
 module _ (bytes : List ℕ) (x left : ℕ) (cs₀ out₀ cs out : List ℕ) (filled a : ℕ) (g : Going bytes x left cs₀ out₀ cs out filled a) where
   -- all are
-  pub going-all : low bytes (x + 1) ≤ a → (out ≡ written (pairsOf bytes left x) out₀) × (filled ≡ length (pairsOf bytes left x))
+  pub going-all : onesBeforeIn bytes (x + 1) ≤ a → (out ≡ written (pairsOf bytes left x) out₀) × (filled ≡ length (pairsOf bytes left x))
   going-all h =
-      let none = listings-none (parentsIn bytes) (left - 1) (64 - (left - 1)) a (low bytes (x + 1)) h in
+      let none = listings-none (parentsIn bytes) (left - 1) (64 - (left - 1)) a (onesBeforeIn bytes (x + 1)) h in
       let e : g .w ≡ pairsOf bytes left x = sym (append-nil (g .w)) ∙ ap (λ (l : List ℕ). g .w ++ l) (sym none) ∙ g .whole in
       (g .front ∙ ap (λ w. written w out₀) e, g .many ∙ ap length e)
 
-  module _ (more : a < low bytes (x + 1)) (room : length (pairsOf bytes left x) ≤ length out₀) where
-    next : g .w ++ (pairsOf bytes (left - 1) (a + 1) ++ listings (parentsIn bytes) (left - 1) (64 - (left - 1)) (a + 1) (low bytes (x + 1))) ≡ pairsOf bytes left x
-    next = ap (λ (l : List ℕ). g .w ++ l) (sym (listings-step (parentsIn bytes) (left - 1) (64 - (left - 1)) a (low bytes (x + 1)) more)) ∙ g .whole
+  module _ (more : a < onesBeforeIn bytes (x + 1)) (room : length (pairsOf bytes left x) ≤ length out₀) where
+    next : g .w ++ (pairsOf bytes (left - 1) (a + 1) ++ listings (parentsIn bytes) (left - 1) (64 - (left - 1)) (a + 1) (onesBeforeIn bytes (x + 1))) ≡ pairsOf bytes left x
+    next = ap (λ (l : List ℕ). g .w ++ l) (sym (listings-step (parentsIn bytes) (left - 1) (64 - (left - 1)) a (onesBeforeIn bytes (x + 1)) more)) ∙ g .whole
 
     -- there is room for the next one
     pub going-room : (length out ≡ length out₀) × (filled + length (pairsOf bytes (left - 1) (a + 1)) ≤ length out₀)
@@ -145,7 +145,7 @@ module _ (bytes : List ℕ) (x left : ℕ) (cs₀ out₀ cs out : List ℕ) (fil
         record {
           w = g .w ++ pairsOf bytes (left - 1) (a + 1);
           front = back (g .w) out₀ (omega arith) out (pairsOf bytes (left - 1) (a + 1)) part' filled (g .front) (g .many) (new .pairs ∙ ap (written (pairsOf bytes (left - 1) (a + 1))) lent);
-          whole = append-assoc (g .w) (pairsOf bytes (left - 1) (a + 1)) (listings (parentsIn bytes) (left - 1) (64 - (left - 1)) (a + 1) (low bytes (x + 1))) ∙ next;
+          whole = append-assoc (g .w) (pairsOf bytes (left - 1) (a + 1)) (listings (parentsIn bytes) (left - 1) (64 - (left - 1)) (a + 1) (onesBeforeIn bytes (x + 1))) ∙ next;
           many = simp length-append (omega arith);
           from = omega arith;
           count = new .count;

@@ -9,13 +9,15 @@ use Rattle.meaning.specs.Listing.{listing}
 use Rattle.theory.specs.Stages.{nodesOf, r0Block}
 use Rattle.image_found.specs.Checked.{layoutIn}
 use Rattle.nav_strings.specs.Nodes.{IsNode}
-use Rattle.list_measure.specs.Levels.{low, below}
+use Rattle.list_measure.specs.Levels.{onesBeforeIn, below}
 use Rattle.list_measure.specs.Cursors.{CursorsReady}
 
 -- once node x is listed: cursors that were ready for all below x and below the nodes after it, up
 -- to any z - 1, are ready for all below these
 abbrev pub MovedOn : List ℕ → ℕ → List ℕ → List ℕ → Type 0
-MovedOn bytes x before after = (z : ℕ) → x < z → CursorsReady (below bytes) before (low bytes x) (low bytes z) → CursorsReady (below bytes) after (low bytes (x + 1)) (low bytes z)
+MovedOn bytes x before after =
+    (z : ℕ) → x < z → CursorsReady (below bytes) before (onesBeforeIn bytes x) (onesBeforeIn bytes z)
+    → CursorsReady (below bytes) after (onesBeforeIn bytes (x + 1)) (onesBeforeIn bytes z)
 
 -- ---- listing node x where `left` of the 64 levels are left, its own among them: cursor 65 - left
 -- is that of its children
@@ -25,13 +27,13 @@ abbrev pub pairsOf : List ℕ → ℕ → ℕ → List ℕ
 pairsOf bytes left x = listing left (parentsIn bytes) x (64 - left)
 
 -- what it needs
-pub record ToList (bytes : List ℕ) (zeros x left : ℕ) (cursors out : List ℕ) : Type 0 where
+pub record ToList (bytes : List ℕ) (r0-block x left : ℕ) (cursors out : List ℕ) : Type 0 where
   pub node : IsNode bytes (layoutIn bytes) x
-  pub begins : zeros ≡ r0Block (nodesOf bytes)
+  pub begins : r0-block ≡ r0Block (nodesOf bytes)
   pub some : 1 ≤ left
   pub most : left ≤ 64
   pub count : length cursors ≡ 64
-  pub ready : CursorsReady (below bytes) (drop (65 - left) cursors) (low bytes x) (low bytes (x + 1))
+  pub ready : CursorsReady (below bytes) (drop (65 - left) cursors) (onesBeforeIn bytes x) (onesBeforeIn bytes (x + 1))
   pub room : length (pairsOf bytes left x) ≤ length out
 
 -- what it gives: n numbers are written, and the cursors of the levels below x have moved on

@@ -11,7 +11,7 @@ use Rattle.meaning.specs.Bytes.{value}
 use Rattle.meaning.specs.Image.{parentsIn}
 use Rattle.meaning.specs.Questions.{Ask, parent, firstChild, lastChild, degree, child, leaf, answer}
 use Rattle.theory.specs.Rank.{onesLeft, position}
-use Rattle.theory.specs.ByStrings.{whereZero, bitOf, within, before, parentOf, childBy, byStrings}
+use Rattle.theory.specs.ByStrings.{whereZero, bitOf, within, onesBeforeBy, parentOf, childBy, byStrings}
 use Rattle.theory.specs.Stages.{readR1, readR0}
 use Rattle.theory.proofs.ByStrings.{within-there, within-low, within-high}
 use Rattle.image_layout.specs.declared.Layout.{Layout}
@@ -33,30 +33,30 @@ between-none low high y h = elim (decLe y low) [
 -- ---- any two strings
 
 module _ (r1 r0 : List Bit) where
-  pub before-at : (z : ℕ) → 1 ≤ z → before r1 r0 z ≡ position r1 (1 + onesLeft r0 z)
-  unfolding before
+  pub before-at : (z : ℕ) → 1 ≤ z → onesBeforeBy r1 r0 z ≡ position r1 (1 + onesLeft r0 z)
+  unfolding onesBeforeBy
   before-at zero h = absurd (omega arith)
   before-at (suc z) h = refl
 
   -- the children are between the ones before zero x and those before zero x + 1
   module _ (x : ℕ) (g : 1 ≤ x) (h : x ≤ length r0) where
-    childless : value (bitOf r0 x) ≡ 0 → before r1 r0 (suc x) ≡ before r1 r0 x
+    childless : value (bitOf r0 x) ≡ 0 → onesBeforeBy r1 r0 (suc x) ≡ onesBeforeBy r1 r0 x
     childless e =
         before-at (suc x) (omega arith)
         ∙ ap (position r1) (let f : 1 + onesLeft r0 (suc x) ≡ 1 + onesLeft r0 x = omega (arith, left-next r0 x g h) in f)
         ∙ sym (before-at x g)
 
-    children-low : before r1 r0 x ≡ position r1 (onesLeft r0 x + 1)
+    children-low : onesBeforeBy r1 r0 x ≡ position r1 (onesLeft r0 x + 1)
     children-low = before-at x g ∙ ap (position r1) (let f : 1 + onesLeft r0 x ≡ onesLeft r0 x + 1 = omega arith in f)
 
-    children-high : value (bitOf r0 x) ≡ 1 → before r1 r0 (suc x) ≡ position r1 (onesLeft r0 x + 2)
+    children-high : value (bitOf r0 x) ≡ 1 → onesBeforeBy r1 r0 (suc x) ≡ position r1 (onesLeft r0 x + 2)
     children-high e =
         before-at (suc x) (omega arith) ∙ ap (position r1) (let f : 1 + onesLeft r0 (suc x) ≡ onesLeft r0 x + 2 = omega (arith, left-next r0 x g h) in f)
 
-    child-within : (z : ℤ) → childBy r1 r0 x z ≡ within (before r1 r0 x) (before r1 r0 (suc x)) (moved (before r1 r0 x) z)
+    child-within : (z : ℤ) → childBy r1 r0 x z ≡ within (onesBeforeBy r1 r0 x) (onesBeforeBy r1 r0 (suc x)) (moved (onesBeforeBy r1 r0 x) z)
     unfolding childBy
     child-within (pos k) = refl
-    child-within (negsuc k) = sym (within-low (before r1 r0 x) (before r1 r0 (suc x)) (before r1 r0 x - suc k) (omega arith))
+    child-within (negsuc k) = sym (within-low (onesBeforeBy r1 r0 x) (onesBeforeBy r1 r0 (suc x)) (onesBeforeBy r1 r0 x - suc k) (omega arith))
 
 -- ---- the strings of a sound image, and a node
 
@@ -92,16 +92,16 @@ module _ {bytes : List ℕ} {i : Layout} {x : ℕ} (node : IsNode bytes i x) whe
   -- ---- no children
 
   module _ (bit : ℕ) (read : bit ≡ value (bitOf r0 x)) (none : bit ≡ 0) where
-    met : before r1 r0 (suc x) ≡ before r1 r0 x
+    met : onesBeforeBy r1 r0 (suc x) ≡ onesBeforeBy r1 r0 x
     met = childless r1 r0 x (node .some) in-r0 (sym read ∙ none)
 
     pub first-none : Answers firstChild (pos 0) 0
     unfolding byStrings
-    first-none = given node firstChild (pos 0) 0 (sym (between-none (before r1 r0 x) (before r1 r0 (suc x)) (before r1 r0 x + 1) (omega (arith, met))))
+    first-none = given node firstChild (pos 0) 0 (sym (between-none (onesBeforeBy r1 r0 x) (onesBeforeBy r1 r0 (suc x)) (onesBeforeBy r1 r0 x + 1) (omega (arith, met))))
 
     pub last-none : Answers lastChild (pos 0) 0
     unfolding byStrings
-    last-none = given node lastChild (pos 0) 0 (sym (between-none (before r1 r0 x) (before r1 r0 (suc x)) (before r1 r0 (suc x)) (omega (arith, met))))
+    last-none = given node lastChild (pos 0) 0 (sym (between-none (onesBeforeBy r1 r0 x) (onesBeforeBy r1 r0 (suc x)) (onesBeforeBy r1 r0 (suc x)) (omega (arith, met))))
 
     pub degree-none : Answers degree (pos 0) 0
     unfolding byStrings
@@ -109,7 +109,9 @@ module _ {bytes : List ℕ} {i : Layout} {x : ℕ} (node : IsNode bytes i x) whe
 
     pub child-none : (z : ℤ) → Answers child z 0
     unfolding byStrings
-    child-none z = given node child z 0 (sym (child-within r1 r0 x (node .some) in-r0 z ∙ between-none (before r1 r0 x) (before r1 r0 (suc x)) (moved (before r1 r0 x) z) (omega (arith, met))))
+    child-none z =
+        given node child z 0
+        (sym (child-within r1 r0 x (node .some) in-r0 z ∙ between-none (onesBeforeBy r1 r0 x) (onesBeforeBy r1 r0 (suc x)) (moved (onesBeforeBy r1 r0 x) z) (omega (arith, met))))
 
   -- ---- children
 
@@ -130,25 +132,25 @@ module _ {bytes : List ℕ} {i : Layout} {x : ℕ} (node : IsNode bytes i x) whe
           ap (position r1) (let f : suc (k + 1) ≡ k + 2 = omega arith in f),
         )
 
-    children : before r1 r0 x < before r1 r0 (suc x)
+    children : onesBeforeBy r1 r0 x < onesBeforeBy r1 r0 (suc x)
     children = omega (arith, apart (onesLeft r0 x) refl, children-low r1 r0 x (node .some) in-r0, children-high r1 r0 x (node .some) in-r0 one)
 
-    pub first-some : (y : ℕ) → y ≡ before r1 r0 x → Answers firstChild (pos 0) (y + 1)
+    pub first-some : (y : ℕ) → y ≡ onesBeforeBy r1 r0 x → Answers firstChild (pos 0) (y + 1)
     unfolding byStrings
     first-some y e =
         given node firstChild (pos 0) (y + 1) (
-        ap (λ n. n + 1) e ∙ sym (within-there (before r1 r0 x) (before r1 r0 (suc x)) (before r1 r0 x + 1) (omega arith) (omega (arith, children)))
+        ap (λ n. n + 1) e ∙ sym (within-there (onesBeforeBy r1 r0 x) (onesBeforeBy r1 r0 (suc x)) (onesBeforeBy r1 r0 x + 1) (omega arith) (omega (arith, children)))
         )
 
     -- the ones before zero x + 1
-    next-zero : (y : ℕ) → y ≡ before r1 r0 (x + 1) → y ≡ before r1 r0 (suc x)
-    next-zero y e = e ∙ ap (before r1 r0) (let f : x + 1 ≡ suc x = omega arith in f)
+    next-zero : (y : ℕ) → y ≡ onesBeforeBy r1 r0 (x + 1) → y ≡ onesBeforeBy r1 r0 (suc x)
+    next-zero y e = e ∙ ap (onesBeforeBy r1 r0) (let f : x + 1 ≡ suc x = omega arith in f)
 
-    pub last-some : (y : ℕ) → y ≡ before r1 r0 (x + 1) → Answers lastChild (pos 0) y
+    pub last-some : (y : ℕ) → y ≡ onesBeforeBy r1 r0 (x + 1) → Answers lastChild (pos 0) y
     unfolding byStrings
     last-some y e =
         given node lastChild (pos 0) y (
-        next-zero y e ∙ sym (within-there (before r1 r0 x) (before r1 r0 (suc x)) (before r1 r0 (suc x)) children (omega arith))
+        next-zero y e ∙ sym (within-there (onesBeforeBy r1 r0 x) (onesBeforeBy r1 r0 (suc x)) (onesBeforeBy r1 r0 (suc x)) children (omega arith))
         )
 
     -- ---- both ends, as they are found
@@ -158,7 +160,7 @@ module _ {bytes : List ℕ} {i : Layout} {x : ℕ} (node : IsNode bytes i x) whe
       pub next-there : after + 1 ≤ i .nodes
       next-there = omega (arith, apart k left, placed1 bytes i (node .sound) (k + 2))
 
-      pub after-is : after ≡ before r1 r0 x
+      pub after-is : after ≡ onesBeforeBy r1 r0 x
       after-is = from ∙ ap (λ n. position r1 (n + 1)) left ∙ sym (children-low r1 r0 x (node .some) in-r0)
 
       -- the first one after one number k + 1
@@ -167,10 +169,10 @@ module _ {bytes : List ℕ} {i : Layout} {x : ℕ} (node : IsNode bytes i x) whe
           ap (onesLeft r1) (let e : after + 1 ≡ suc (position r1 (k + 1)) = omega arith in e)
           ∙ left-after-one r1 (k + 1) (omega (arith, one-more, strings bytes i (node .sound) .ended1 .count))
 
-      pub last-is : (last : ℕ) → last ≡ position r1 (onesLeft r1 (after + 1) + 1) → last ≡ before r1 r0 (x + 1)
+      pub last-is : (last : ℕ) → last ≡ position r1 (onesLeft r1 (after + 1) + 1) → last ≡ onesBeforeBy r1 r0 (x + 1)
       last-is last to =
           to ∙ ap (position r1) (let e : onesLeft r1 (after + 1) + 1 ≡ onesLeft r0 x + 2 = omega (arith, left-of-next) in e)
-          ∙ sym (children-high r1 r0 x (node .some) in-r0 one) ∙ ap (before r1 r0) (let f : suc x ≡ x + 1 = omega arith in f)
+          ∙ sym (children-high r1 r0 x (node .some) in-r0 one) ∙ ap (onesBeforeBy r1 r0) (let f : suc x ≡ x + 1 = omega arith in f)
 
     -- ---- what both ends give
 

@@ -6,7 +6,7 @@ ghost use Rattle.meaning.specs.Bytes.{value};
 ghost use Rattle.meaning.specs.Image.{parentsIn};
 ghost use Rattle.meaning.specs.Questions.{answer, parent, firstChild, lastChild, degree, child, leaf};
 ghost use Rattle.theory.specs.Stages.{readR1, readR0};
-ghost use Rattle.theory.specs.ByStrings.{bitOf, before};
+ghost use Rattle.theory.specs.ByStrings.{bitOf, onesBeforeBy};
 ghost use Rattle.image_found.specs.declared.Checked.the-variants.{Sound};
 ghost use Rattle.image_found.specs.Checked.{checked};
 ghost use Rattle.ask_argument.specs.Values.{valueOf};
@@ -47,7 +47,7 @@ pub fn is_leaf(b: &[u8], image: Layout, x: usize) -> u32
     requires { ⌜ IsNode (now b) image x ⌝ }
     ensures { λ r. ⌜ r ≡ answer (parentsIn (now (b .entry))) leaf x (pos 0) ⌝ }
 {
-    1 - bit_r0(b, image, x) as u32
+    1 - bit_r0(b, image.r0_block as usize, x) as u32
 }
 
 // The ones of the tree string before its zero number z: node x has its children after those before
@@ -56,7 +56,7 @@ pub fn ones_before_zero(b: &[u8], image: Layout, z: usize) -> usize
     requires { ⌜ checked (now b) ≡ Sound image ⌝ }
     requires { ⌜ 1 ≤ z ⌝ }
     requires { ⌜ z ≤ image .nodes + 1 ⌝ }
-    ensures { λ r. ⌜ r ≡ before (readR1 (now (b .entry))) (readR0 (now (b .entry))) z ⌝ }
+    ensures { λ r. ⌜ r ≡ onesBeforeBy (readR1 (now (b .entry))) (readR0 (now (b .entry))) z ⌝ }
 {
     select_r1(b, image, 1 + rank_r0(b, image, z))
 }
@@ -79,7 +79,7 @@ pub fn first_child(b: &[u8], image: Layout, x: usize) -> u32
     requires { ⌜ IsNode (now b) image x ⌝ }
     ensures { λ r. ⌜ r ≡ answer (parentsIn (now (b .entry))) firstChild x (pos 0) ⌝ }
 {
-    if bit_r0(b, image, x) == 0 {
+    if bit_r0(b, image.r0_block as usize, x) == 0 {
         return 0;
     }
     ones_before_zero(b, image, x) as u32 + 1
@@ -90,7 +90,7 @@ pub fn last_child(b: &[u8], image: Layout, x: usize) -> u32
     requires { ⌜ IsNode (now b) image x ⌝ }
     ensures { λ r. ⌜ r ≡ answer (parentsIn (now (b .entry))) lastChild x (pos 0) ⌝ }
 {
-    if bit_r0(b, image, x) == 0 {
+    if bit_r0(b, image.r0_block as usize, x) == 0 {
         return 0;
     }
     ones_before_zero(b, image, x + 1) as u32
@@ -101,7 +101,7 @@ pub fn degree_of(b: &[u8], image: Layout, x: usize) -> u32
     requires { ⌜ IsNode (now b) image x ⌝ }
     ensures { λ r. ⌜ r ≡ answer (parentsIn (now (b .entry))) degree x (pos 0) ⌝ }
 {
-    if bit_r0(b, image, x) == 0 {
+    if bit_r0(b, image.r0_block as usize, x) == 0 {
         return 0;
     }
     let children = children_of(b, image, x);
@@ -113,7 +113,7 @@ pub fn child_number(b: &[u8], image: Layout, x: usize, z: Signed) -> u32
     requires { ⌜ IsNode (now b) image x ⌝ }
     ensures { λ r. ⌜ r ≡ answer (parentsIn (now (b .entry))) child x (valueOf z) ⌝ }
 {
-    if bit_r0(b, image, x) == 0 {
+    if bit_r0(b, image.r0_block as usize, x) == 0 {
         return 0;
     }
     let children = children_of(b, image, x);

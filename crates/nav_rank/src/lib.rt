@@ -12,6 +12,8 @@ ghost use Rattle.theory.specs.Stages.{CountsAndPadding};
 ghost use Rattle.image_string.specs.Parts.{onesTo};
 use bits_count::ones_before;
 use bits_word::ones_in_word;
+use image_layout::bits_at;
+use image_layout::last_block;
 use image_words::word;
 
 // How many bits of the k words of eight bytes from `at` on are one.
@@ -31,30 +33,31 @@ fn ones_in_words(b: &[u8], at: usize, k: usize) -> u32
 
 // How many ones of a string come before bit p of its block j, counted from the beginning of that
 // block.
-fn from_front(b: &[u8], first: usize, j: usize, p: usize) -> usize
+fn from_front(b: &[u8], bits_block: usize, j: usize, p: usize) -> usize
     requires { ⌜ p < 4000 ⌝ }
-    requires { ⌜ first + j ≤ mostBlock + mostBlock ⌝ }
-    requires { ⌜ 512 * (first + j + 1) ≤ length (now b) ⌝ }
-    requires { ⌜ wordAt (now b) (512 * (first + j)) ≡ onesTo (now b) first (4000 * j) ⌝ }
-    ensures { λ r. ⌜ r ≡ onesTo (now (b .entry)) first (4000 * j + p) ⌝ }
+    requires { ⌜ «bits_block» + j ≤ mostBlock + mostBlock ⌝ }
+    requires { ⌜ 512 * («bits_block» + j + 1) ≤ length (now b) ⌝ }
+    requires { ⌜ wordAt (now b) (512 * («bits_block» + j)) ≡ onesTo (now b) «bits_block» (4000 * j) ⌝ }
+    ensures { λ r. ⌜ r ≡ onesTo (now (b .entry)) «bits_block» (4000 * j + p) ⌝ }
 {
-    let start = 512 * (first + j) + 4;
-    word(b, 512 * (first + j)) as usize
+    let start = bits_at(bits_block + j);
+    word(b, 512 * (bits_block + j)) as usize
         + ones_in_words(b, start, p / 64) as usize
         + ones_before(b, start + 8 * (p / 64), p % 64) as usize
 }
 
-// The same, counted from the end of the block, before which there are `end` ones: without those
-// from the word of bit p on, of which the last is half a word, but for those before p.
-fn from_behind(b: &[u8], first: usize, j: usize, p: usize, end: usize) -> usize
+// How many ones of a string come before bit p of its block j, counted from the end of that block,
+// before which there are `end` ones: without those from the word of bit p on, of which the last is
+// half a word, but for those before p.
+fn from_behind(b: &[u8], bits_block: usize, j: usize, p: usize, end: usize) -> usize
     requires { ⌜ p < 4000 ⌝ }
-    requires { ⌜ first + j ≤ mostBlock + mostBlock ⌝ }
-    requires { ⌜ 512 * (first + j + 1) ≤ length (now b) ⌝ }
+    requires { ⌜ «bits_block» + j ≤ mostBlock + mostBlock ⌝ }
+    requires { ⌜ 512 * («bits_block» + j + 1) ≤ length (now b) ⌝ }
     requires { ⌜ end ≤ 65536 ⌝ }
-    requires { ⌜ end ≡ onesTo (now b) first (4000 * (j + 1)) ⌝ }
-    ensures { λ r. ⌜ r ≡ onesTo (now (b .entry)) first (4000 * j + p) ⌝ }
+    requires { ⌜ end ≡ onesTo (now b) «bits_block» (4000 * (j + 1)) ⌝ }
+    ensures { λ r. ⌜ r ≡ onesTo (now (b .entry)) «bits_block» (4000 * j + p) ⌝ }
 {
-    let start = 512 * (first + j) + 4;
+    let start = bits_at(bits_block + j);
     let at = start + 8 * (p / 64);
     end + ones_before(b, at, p % 64) as usize
         - ones_in_words(b, at, 62 - p / 64) as usize
@@ -63,37 +66,37 @@ fn from_behind(b: &[u8], first: usize, j: usize, p: usize, end: usize) -> usize
 
 // How many ones of a string of n bits, m of them ones, come before the end of its block j: as the
 // next block says, or all.
-fn ones_to_end(b: &[u8], first: usize, n: usize, m: usize, j: usize) -> usize
+fn ones_to_end(b: &[u8], bits_block: usize, n: usize, m: usize, j: usize) -> usize
     requires { ⌜ n ≤ 65536 ⌝ }
-    requires { ⌜ m ≡ ones (stringIn (now b) first 0 n) ⌝ }
-    requires { ⌜ first ≤ mostBlock ⌝ }
-    requires { ⌜ 512 * (first + stringBlocks n) ≤ length (now b) ⌝ }
-    requires { ⌜ CountsAndPadding (now b) first (stringIn (now b) first 0 n) ⌝ }
+    requires { ⌜ m ≡ ones (stringIn (now b) «bits_block» 0 n) ⌝ }
+    requires { ⌜ «bits_block» ≤ mostBlock ⌝ }
+    requires { ⌜ 512 * («bits_block» + stringBlocks n) ≤ length (now b) ⌝ }
+    requires { ⌜ CountsAndPadding (now b) «bits_block» (stringIn (now b) «bits_block» 0 n) ⌝ }
     requires { ⌜ j < stringBlocks n ⌝ }
-    ensures { λ r. ⌜ (r ≡ onesTo (now (b .entry)) first (4000 * (j + 1))) × (r ≤ 65536) ⌝ }
+    ensures { λ r. ⌜ (r ≡ onesTo (now (b .entry)) «bits_block» (4000 * (j + 1))) × (r ≤ 65536) ⌝ }
 {
-    if j == (n - 1) / 4000 {
+    if j == last_block(n) {
         return m;
     }
-    word(b, 512 * (first + j + 1)) as usize
+    word(b, 512 * (bits_block + j + 1)) as usize
 }
 
 // How many ones are left of position x, from 1, in the string of n bits, m of them ones, whose
-// blocks begin at block `first`: from the nearer end of its block.
-pub fn rank(b: &[u8], first: usize, n: usize, m: usize, x: usize) -> usize
+// blocks begin at block `bits_block`: from the nearer end of its block.
+pub fn rank(b: &[u8], bits_block: usize, n: usize, m: usize, x: usize) -> usize
     requires { ⌜ 1 ≤ x ⌝ }
     requires { ⌜ x ≤ n ⌝ }
     requires { ⌜ n ≤ 65536 ⌝ }
-    requires { ⌜ m ≡ ones (stringIn (now b) first 0 n) ⌝ }
-    requires { ⌜ first ≤ mostBlock ⌝ }
-    requires { ⌜ 512 * (first + stringBlocks n) ≤ length (now b) ⌝ }
-    requires { ⌜ CountsAndPadding (now b) first (stringIn (now b) first 0 n) ⌝ }
-    ensures { λ r. ⌜ r ≡ onesLeft (stringIn (now (b .entry)) first 0 n) x ⌝ }
+    requires { ⌜ m ≡ ones (stringIn (now b) «bits_block» 0 n) ⌝ }
+    requires { ⌜ «bits_block» ≤ mostBlock ⌝ }
+    requires { ⌜ 512 * («bits_block» + stringBlocks n) ≤ length (now b) ⌝ }
+    requires { ⌜ CountsAndPadding (now b) «bits_block» (stringIn (now b) «bits_block» 0 n) ⌝ }
+    ensures { λ r. ⌜ r ≡ onesLeft (stringIn (now (b .entry)) «bits_block» 0 n) x ⌝ }
 {
     let j = (x - 1) / 4000;
     let p = (x - 1) % 4000;
     if p < 2000 {
-        return from_front(b, first, j, p);
+        return from_front(b, bits_block, j, p);
     }
-    from_behind(b, first, j, p, ones_to_end(b, first, n, m, j))
+    from_behind(b, bits_block, j, p, ones_to_end(b, bits_block, n, m, j))
 }

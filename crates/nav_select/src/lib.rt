@@ -7,34 +7,35 @@ ghost use Rattle.meaning.specs.Strings.{ones};
 ghost use Rattle.meaning.specs.Image.{stringBlocks, stringIn};
 ghost use Rattle.theory.specs.Rank.{position};
 ghost use Rattle.theory.specs.Stages.{CountsAndPadding, Sampled, blocksOfSamples};
+use image_layout::sample_at;
 use image_words::word;
 use nav_select_in_block::block_of;
 use nav_select_in_block::place_after;
 
 // The position, from 1, of one number k of the string of n bits, m of them ones, whose blocks begin
-// at block `first` and whose samples begin at block `from`:
+// at block `bits_block` and whose samples begin at block `samples`:
 // from the sample before it, or from the beginning of its block if that comes later.
-pub fn select(b: &[u8], first: usize, n: usize, from: usize, m: usize, k: usize) -> usize
+pub fn select(b: &[u8], bits_block: usize, n: usize, samples: usize, m: usize, k: usize) -> usize
     requires { ⌜ 1 ≤ k ⌝ }
     requires { ⌜ k ≤ m ⌝ }
     requires { ⌜ n ≤ 65536 ⌝ }
-    requires { ⌜ m ≡ ones (stringIn (now b) first 0 n) ⌝ }
-    requires { ⌜ first ≤ mostBlock ⌝ }
-    requires { ⌜ from ≤ mostBlock ⌝ }
+    requires { ⌜ m ≡ ones (stringIn (now b) «bits_block» 0 n) ⌝ }
+    requires { ⌜ «bits_block» ≤ mostBlock ⌝ }
+    requires { ⌜ samples ≤ mostBlock ⌝ }
     requires { ⌜ length (now b) ≤ 512 * mostBlock ⌝ }
-    requires { ⌜ 512 * (first + stringBlocks n) ≤ length (now b) ⌝ }
-    requires { ⌜ 512 * (from + blocksOfSamples m) ≤ length (now b) ⌝ }
-    requires { ⌜ CountsAndPadding (now b) first (stringIn (now b) first 0 n) ⌝ }
-    requires { ⌜ Sampled (now b) from m (stringIn (now b) first 0 n) ⌝ }
-    ensures { λ r. ⌜ r ≡ position (stringIn (now (b .entry)) first 0 n) k ⌝ }
+    requires { ⌜ 512 * («bits_block» + stringBlocks n) ≤ length (now b) ⌝ }
+    requires { ⌜ 512 * (samples + blocksOfSamples m) ≤ length (now b) ⌝ }
+    requires { ⌜ CountsAndPadding (now b) «bits_block» (stringIn (now b) «bits_block» 0 n) ⌝ }
+    requires { ⌜ Sampled (now b) samples m (stringIn (now b) «bits_block» 0 n) ⌝ }
+    ensures { λ r. ⌜ r ≡ position (stringIn (now (b .entry)) «bits_block» 0 n) k ⌝ }
 {
     let q = (k - 1) / 64;
     // how many bits come before one number 64 q + 1
-    let i = word(b, 512 * (from + q / 126) + 4 * (q % 126)) as usize - 1;
-    let j = block_of(b, first, n, i / 4000, k);
+    let i = word(b, sample_at(samples, q)) as usize - 1;
+    let j = block_of(b, bits_block, n, i / 4000, k);
     if i / 4000 < j {
-        let earlier = word(b, 512 * (first + j)) as usize;
-        return place_after(b, first, 4000 * j, k - 1 - earlier);
+        let earlier = word(b, 512 * (bits_block + j)) as usize;
+        return place_after(b, bits_block, 4000 * j, k - 1 - earlier);
     }
-    place_after(b, first, i, (k - 1) % 64)
+    place_after(b, bits_block, i, (k - 1) % 64)
 }

@@ -31,12 +31,9 @@ string-run bytes first s k h =
     place : (i : ℕ) → s % 4000 + i < 4000 → bitPlace first (s + i) ≡ bitPlace first s + i
     place i g = omega arith
 
-module _ (bytes : List ℕ) (first i : ℕ) where
-  -- the byte of bit i, how many bits come before that byte, and how many before the end of the
-  -- block
-  abbrev at : ℕ
-  at = 512 * (first + i / 4000) + 4 + i % 4000 / 8
-
+-- the byte of bit i is at `at`
+module _ (bytes : List ℕ) (first i at : ℕ) (is-at : at ≡ 512 * (first + i / 4000) + 4 + i % 4000 / 8) where
+  -- how many bits come before that byte, and how many before the end of the block
   abbrev start : ℕ
   start = i - i % 8
 

@@ -12,7 +12,7 @@ use Rattle.meaning.specs.Parents.{parents}
 use Rattle.meaning.specs.Image.{parentsIn, isImage, stringIn}
 use Rattle.meaning.specs.Questions.{Ask, answer}
 use Rattle.theory.specs.Rank.{onesLeft, position}
-use Rattle.theory.specs.ByStrings.{before, byStrings}
+use Rattle.theory.specs.ByStrings.{onesBeforeBy, byStrings}
 use Rattle.theory.specs.Stages.{Ended, readR1, readR0, nodesOf, r0Block}
 use Rattle.theory.proofs.TreeImages.{is-image, parents-in, length-stringIn}
 use Rattle.theory.proofs.InBlocks.{stringIn-cut}
@@ -105,7 +105,7 @@ module _ (bytes : List ℕ) (i : Layout) (found : checked bytes ≡ Sound i) whe
       let first = r0Block (nodesOf bytes) in
       omega (arith, s .most, s .length0, within-length first (nodesOf bytes + 1) k, length-stringIn bytes first 0 (nodesOf bytes + 1))
 
-  pub small-before : (z : ℕ) → before r1 r0 z ≤ 65535
-  unfolding before
+  pub small-before : (z : ℕ) → onesBeforeBy r1 r0 z ≤ 65535
+  unfolding onesBeforeBy
   small-before zero = omega arith
   small-before (suc z) = small1 (1 + onesLeft r0 (suc z))

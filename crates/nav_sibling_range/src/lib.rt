@@ -1,5 +1,4 @@
 // Where a run of siblings begins and ends: the ones of R1 on either side of a node.
-// that the check found sound.
 ghost use mathlib.Core.Path.{_≡_};
 ghost use Prim.Native.Nat.{_+_, _≤_};
 ghost use Rattle.theory.specs.Rank.{onesLeft, position};
@@ -10,6 +9,7 @@ ghost use Rattle.nav_strings.specs.Nodes.{IsNode};
 use bits_nearest::first_one;
 use bits_nearest::last_one;
 use image_layout::Layout;
+use image_layout::bits_at;
 use nav_strings::rank_r1;
 use nav_strings::select_r1;
 
@@ -41,7 +41,7 @@ pub fn run_before(b: &[u8], image: Layout, x: usize) -> usize
 {
     let i = x - 1;
     let n = i % 4000;
-    let found = last_one(b, 512 * (1 + i / 4000) + 4, n);
+    let found = last_one(b, bits_at(1 + i / 4000), n);
     if found == 0 {
         return far_before(b, image, x);
     }
@@ -64,7 +64,7 @@ pub fn run_last(b: &[u8], image: Layout, x: usize) -> usize
 {
     let i = x - 1;
     let n = i % 4000;
-    let found = first_one(b, 512 * (1 + i / 4000) + 4, n);
+    let found = first_one(b, bits_at(1 + i / 4000), n);
     if found == 4000 {
         return far_last(b, image, x);
     }

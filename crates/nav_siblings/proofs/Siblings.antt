@@ -11,7 +11,7 @@ use Rattle.meaning.specs.Bytes.{value}
 use Rattle.meaning.specs.Image.{parentsIn}
 use Rattle.meaning.specs.Questions.{Ask, nextSibling, previousSibling, rank, sibling, answer}
 use Rattle.theory.specs.Rank.{onesLeft, position}
-use Rattle.theory.specs.ByStrings.{whereZero, bitOf, within, before, parentOf, siblingBy, byStrings}
+use Rattle.theory.specs.ByStrings.{whereZero, bitOf, within, onesBeforeBy, parentOf, siblingBy, byStrings}
 use Rattle.theory.specs.Stages.{readR1, readR0}
 use Rattle.theory.proofs.Navigate.{position-zero}
 use Rattle.theory.proofs.ByStrings.{within-there, within-low, within-high}
@@ -29,24 +29,24 @@ module _ (r1 r0 : List Bit) where
   -- siblings are between two ones of R1 that follow each other: before x's parent's zero, and
   -- before the next zero
   module _ (x : ℕ) (there : onesLeft r1 x ≤ ones r0) where
-    siblings-low : before r1 r0 (parentOf r1 r0 x) ≡ position r1 (onesLeft r1 x)
-    unfolding before parentOf
+    siblings-low : onesBeforeBy r1 r0 (parentOf r1 r0 x) ≡ position r1 (onesLeft r1 x)
+    unfolding onesBeforeBy parentOf
     siblings-low = go (onesLeft r1 x) there
       where
-        go : (k : ℕ) → k ≤ ones r0 → before r1 r0 (position r0 k) ≡ position r1 k
-        go zero h = ap (before r1 r0) (position-zero r0) ∙ sym (position-zero r1)
+        go : (k : ℕ) → k ≤ ones r0 → onesBeforeBy r1 r0 (position r0 k) ≡ position r1 k
+        go zero h = ap (onesBeforeBy r1 r0) (position-zero r0) ∙ sym (position-zero r1)
         go (suc k) h =
             before-at r1 r0 (position r0 (suc k)) (omega (arith, position-less r0 k h))
             ∙ ap (position r1) (let e : 1 + onesLeft r0 (position r0 (suc k)) ≡ suc k = omega (arith, left-of-one r0 k h) in e)
 
-    siblings-high : before r1 r0 (suc (parentOf r1 r0 x)) ≡ position r1 (onesLeft r1 x + 1)
+    siblings-high : onesBeforeBy r1 r0 (suc (parentOf r1 r0 x)) ≡ position r1 (onesLeft r1 x + 1)
     unfolding parentOf
     siblings-high =
         let k = onesLeft r1 x in
         before-at r1 r0 (suc (position r0 k)) (omega arith)
         ∙ ap (position r1) (let e : 1 + onesLeft r0 (suc (position r0 k)) ≡ k + 1 = omega (arith, left-after-one r0 k there) in e)
 
-    sibling-within : (z : ℤ) → siblingBy r1 r0 x z ≡ within (before r1 r0 (parentOf r1 r0 x)) (before r1 r0 (suc (parentOf r1 r0 x))) (moved x z)
+    sibling-within : (z : ℤ) → siblingBy r1 r0 x z ≡ within (onesBeforeBy r1 r0 (parentOf r1 r0 x)) (onesBeforeBy r1 r0 (suc (parentOf r1 r0 x))) (moved x z)
     unfolding siblingBy
     sibling-within (pos k) = refl
     sibling-within (negsuc k) = refl
@@ -102,7 +102,7 @@ module _ {bytes : List ℕ} {i : Layout} {x : ℕ} (node : IsNode bytes i x) whe
   abbrev end : ℕ
   end = position r1 (onesLeft r1 x + 1)
 
-  start-is : start ≡ before r1 r0 (parentOf r1 r0 x)
+  start-is : start ≡ onesBeforeBy r1 r0 (parentOf r1 r0 x)
   start-is = sym (siblings-low r1 r0 x siblings-there)
 
   module _ (low : ℕ) (from : low ≡ start) where

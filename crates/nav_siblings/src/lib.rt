@@ -1,5 +1,4 @@
 // The siblings of a node of a checked image: next, previous, its rank, one some places away.
-// many places away.
 ghost use mathlib.Core.Path.{_≡_};
 ghost use lib.IntN.{pos};
 ghost use Rattle.meaning.specs.Image.{parentsIn};
@@ -18,7 +17,7 @@ pub fn next_sibling(b: &[u8], image: Layout, x: usize) -> u32
     requires { ⌜ IsNode (now b) image x ⌝ }
     ensures { λ r. ⌜ r ≡ answer (parentsIn (now (b .entry))) nextSibling x (pos 0) ⌝ }
 {
-    if bit_r1(b, image, x) != 0 {
+    if bit_r1(b, x) != 0 {
         return 0;
     }
     x as u32 + 1
@@ -32,7 +31,7 @@ pub fn previous_sibling(b: &[u8], image: Layout, x: usize) -> u32
     if x == 1 {
         return 0;
     }
-    if bit_r1(b, image, x - 1) != 0 {
+    if bit_r1(b, x - 1) != 0 {
         return 0;
     }
     x as u32 - 1

@@ -3,30 +3,32 @@ ghost use mathlib.Core.Path.{_≡_};
 ghost use Prim.Native.Nat.{_+_, _≤_};
 ghost use Rattle.meaning.specs.Bytes.{value};
 ghost use Rattle.theory.specs.Rank.{onesLeft, position};
-ghost use Rattle.theory.specs.Stages.{readR1, readR0};
+ghost use Rattle.theory.specs.Stages.{nodesOf, readR1, readR0, r0Block};
 ghost use Rattle.theory.specs.ByStrings.{bitOf};
 ghost use Rattle.image_found.specs.declared.Checked.the-variants.{Sound};
-ghost use Rattle.image_found.specs.Checked.{checked};
+ghost use Rattle.image_found.specs.Checked.{checked, layoutIn};
 ghost use Rattle.nav_strings.specs.Nodes.{IsNode};
 use image_layout::Layout;
 use image_string::string_bit;
 use nav_rank::rank;
 use nav_select::select;
 
-// Bit x, from 1, of R1.
-pub fn bit_r1(b: &[u8], image: Layout, x: usize) -> u8
-    requires { ⌜ IsNode (now b) image x ⌝ }
+// Bit x, from 1, of R1: 1 if node x is the last of its siblings.
+pub fn bit_r1(b: &[u8], x: usize) -> u8
+    requires { ⌜ IsNode (now b) (layoutIn (now b)) x ⌝ }
     ensures { λ r. ⌜ r ≡ value (bitOf (readR1 (now (b .entry))) x) ⌝ }
 {
     string_bit(b, 1, x - 1)
 }
 
-// Bit x, from 1, of R0.
-pub fn bit_r0(b: &[u8], image: Layout, x: usize) -> u8
-    requires { ⌜ IsNode (now b) image x ⌝ }
+// Bit x, from 1, of R0, which begins at block `r0_block`: 1 if node x has a child. It is handed that
+// block and not the layout, since a listing would copy the layout for each of its nodes.
+pub fn bit_r0(b: &[u8], r0_block: usize, x: usize) -> u8
+    requires { ⌜ IsNode (now b) (layoutIn (now b)) x ⌝ }
+    requires { ⌜ «r0_block» ≡ r0Block (nodesOf (now b)) ⌝ }
     ensures { λ r. ⌜ r ≡ value (bitOf (readR0 (now (b .entry))) x) ⌝ }
 {
-    string_bit(b, image.r0_block as usize, x - 1)
+    string_bit(b, r0_block, x - 1)
 }
 
 // The ones of R1 left of bit x.

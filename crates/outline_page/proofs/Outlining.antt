@@ -25,9 +25,9 @@ use Rattle.image_found.specs.declared.Checked.the-variants.{Sound, Refused}
 use Rattle.image_found.specs.Checked.{answered, checked, foundBy, layoutIn}
 use Rattle.image_found.proofs.Finding.{sound-known}
 use Rattle.call_check_image.proofs.Calling.{image-answered}
-use Rattle.list_measure.specs.Levels.{low, sized, sizeOf}
+use Rattle.list_measure.specs.Levels.{onesBeforeIn, sized, sizeOf}
 use Rattle.list_measure.proofs.Levels.{listing-less}
-use Rattle.list_measure.proofs.Numbers.{low-mono, low-kids}
+use Rattle.list_measure.proofs.Numbers.{onesBeforeIn-mono, onesBeforeIn-kids}
 use Rattle.call_list.proofs.Calling.{list-deep, list-given}
 use Rattle.outline_heading.specs.Lines.{heading, nodeLines, refusal}
 use Rattle.outline_page.specs.Outline.{printed, outlineOf}
@@ -125,7 +125,7 @@ module _ (bytes : List ℕ) where
       given out h = sym (list-given bytes 1 out i e (omega arith) some (i .nodes)
           (ap₂ sized (sym d) (let k : i .nodes ≡ length pairs / 2 = omega (arith, whole .size) in k))
           h (counts (i .nodes) 0) (written pairs out) refl
-          (ap (λ l. written l out) (listing-less (parentsIn bytes) (low bytes) (low-mono bytes i e) (low-kids bytes i e) 1 (omega arith) d)))
+          (ap (λ l. written l out) (listing-less (parentsIn bytes) (onesBeforeIn bytes) (onesBeforeIn-mono bytes i e) (onesBeforeIn-kids bytes i e) 1 (omega arith) d)))
 
     -- the listing, in a list that has room: refused, or the lines of the nodes
     pub record Listed (a : Answer) (o : List ℕ) : Type 0 where

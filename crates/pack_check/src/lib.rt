@@ -22,8 +22,7 @@ use table_answers::row;
 use table_answers::upper;
 
 // Scans a pack with one copy of the table of falls for all its trees, and notes the first bit and
-// the
-// node count of each tree for which the lists have an entry.
+// the node count of each tree for which the lists have an entry.
 pub fn scan_pack(b: &[u8], n: usize, firsts: &mut [u32], counts: &mut [u32]) -> Pack
     requires { ⌜ n ≤ 8 * length (now b) ⌝ }
     requires { ⌜ n ≤ 131071 ⌝ }
@@ -56,9 +55,8 @@ fn trees_in(pack: Pack) -> u32
 }
 
 // What is wrong with the first n bits as a pack of so many trees: a leftover bit, a bit that begins
-// no
-// strings, or another number of trees. If nothing is, the first bit and the node count of each tree
-// for which the lists have an entry are noted.
+// no strings, or another number of trees. If nothing is, the first bit and the node count of each
+// tree for which the lists have an entry are noted.
 pub fn check_and_note(
     b: &[u8],
     n: usize,

@@ -1,7 +1,6 @@
 -- What the store promises, in the order of the customer's demands. Each name is a statement about
--- the nine calls as functions of what is lent
--- (calls/specs/Calls.antt); the contract of each exported call is an equation with its function,
--- so what is said here is said of the code.
+-- the nine calls as functions of what is lent (calls/specs/Calls.antt); the contract of each
+-- exported call is an equation with its function, so what is said here is said of the code.
 -- `Promises`, at the end, is all of them, with those of the theory, of strings, packs and images,
 -- and of the outline; proofs/Promises.antt keeps it.
 use mathlib.Core.Path.{_≡_}

@@ -87,13 +87,13 @@ module _ (old out : List ℕ) (from n c j : ℕ) (k : Counting old out from n c 
       | no d ↦ word-agree new out (512 * (from + i)) (λ q a b. new-byte q (λ g m. d (omega arith))) ∙ k .counts i (omega arith)
     ]
 
-    pub counting-next : (s : List ℕ) (x : ℕ) → s ≡ withWord out (512 * (from + j)) c → x ≡ ones (bitsFrom s (8 * (512 * (from + j) + 4)) 4000)
+    pub counting-next : (s : List ℕ) (x at : ℕ) → s ≡ withWord out (512 * (from + j)) c → at ≡ 512 * (from + j) + 4 → x ≡ ones (bitsFrom s (8 * at) 4000)
         → Counting old s from n (c + x) (j + 1)
     unfolding new
-    counting-next s x e f =
+    counting-next s x at e is-at f =
         subst (λ t. Counting old t from n (c + x) (j + 1)) (sym e) (record {
           left = omega arith;
-          sum = ap₂ _+_ (k .sum) (f ∙ ap (λ t. ones (bitsFrom t (8 * (512 * (from + j) + 4)) 4000)) e ∙ ap (λ t. ones t) new-bits) ∙ full-more old from j;
+          sum = ap₂ _+_ (k .sum) (f ∙ ap₂ (λ t p. ones (bitsFrom t (8 * p) 4000)) e is-at ∙ ap (λ t. ones t) new-bits) ∙ full-more old from j;
           counts = new-count;
           apart = new-apart;
           kept = put-length out (512 * (from + j)) c fits ∙ k .kept;

@@ -20,20 +20,20 @@ pub fn clear(image: &mut [u8], bytes: usize)
     }
 }
 
-// The counts of earlier ones in the blocks from `from` on, which hold n bits.
-pub fn put_counts(image: &mut [u8], from: usize, n: usize)
-    requires { ⌜ from ≤ mostBlock ⌝ }
+// The counts of earlier ones in the blocks from `bits_block` on, which hold n bits.
+pub fn put_counts(image: &mut [u8], bits_block: usize, n: usize)
+    requires { ⌜ «bits_block» ≤ mostBlock ⌝ }
     requires { ⌜ n ≤ 65536 ⌝ }
-    requires { ⌜ 512 * (from + stringBlocks n) ≤ length (now image) ⌝ }
-    ensures { λ _. ⌜ CountsWritten (now (image .entry)) (now (image .exit)) from n ⌝ }
+    requires { ⌜ 512 * («bits_block» + stringBlocks n) ≤ length (now image) ⌝ }
+    ensures { λ _. ⌜ CountsWritten (now (image .entry)) (now (image .exit)) «bits_block» n ⌝ }
 {
     let end = image_layout::string_blocks(n);
     let mut c: u32 = 0;
     let mut j: usize = 0;
     while j < end {
-        image_words::put_word(image, 512 * (from + j), c);
+        image_words::put_word(image, 512 * (bits_block + j), c);
         // of the last block all 4,000 bits too: its ones are in no count
-        c += bits_count::ones_from(image, 512 * (from + j) + 4, 4000);
+        c += bits_count::ones_from(image, image_layout::bits_at(bits_block + j), 4000);
         j += 1;
     }
 }

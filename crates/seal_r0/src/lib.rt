@@ -10,15 +10,17 @@ ghost use Rattle.seal_r1_bits.specs.Listed.{runsIn};
 ghost use Rattle.seal_r1.specs.Passes.{bytePlace, Blank, R1SamplesKnown, R0Written, R0SamplesWritten, RoomForStrings, StringsWritten};
 use bits_wide::wide;
 use image_layout::Layout;
+use image_layout::bits_at;
+use image_layout::sample_at;
 use seal_r1::write_r1;
 
-// Where byte number c of a string is whose blocks begin at `from`.
-fn byte_place(from: usize, c: usize) -> usize
-    requires { ⌜ from ≤ mostBlock ⌝ }
+// Where byte number c of a string is whose blocks begin at block `bits_block`.
+fn byte_place(bits_block: usize, c: usize) -> usize
+    requires { ⌜ «bits_block» ≤ mostBlock ⌝ }
     requires { ⌜ c ≤ 70000 ⌝ }
-    ensures { λ r. ⌜ r ≡ bytePlace from c ⌝ }
+    ensures { λ r. ⌜ r ≡ bytePlace «bits_block» c ⌝ }
 {
-    512 * (from + c / 500) + 4 + c % 500
+    bits_at(bits_block + c / 500) + c % 500
 }
 
 // R0: before each entry but the first a run of zeros ends, and one after the last. The byte of the
@@ -50,28 +52,28 @@ fn write_r0(image: &mut [u8], ps: &[u32], zeros: usize)
     let at = byte_place(zeros, c);
     image[at] = byte;
     let n = ps.len();
-    bits_byte::set_bit(image, 8 * (512 * (zeros + n / 4000) + 4) + n % 4000);
+    bits_byte::set_bit(image, 8 * bits_at(zeros + n / 4000) + n % 4000);
 }
 
 // The samples of R0 of a list with m runs: the run of zeros with the same number as a run of ones
 // ends before the entry after it.
-fn write_r0_samples(image: &mut [u8], ps: &[u32], first: usize, second: usize, m: usize)
+fn write_r0_samples(image: &mut [u8], ps: &[u32], r1_samples: usize, r0_samples: usize, m: usize)
     requires { ⌜ 1 ≤ length (now ps) ⌝ }
     requires { ⌜ length (now ps) ≤ 65535 ⌝ }
     requires { ⌜ badEntry (now ps) ≡ 0 ⌝ }
     requires { ⌜ m ≡ runsIn (now ps) ⌝ }
-    requires { ⌜ second ≤ mostBlock ⌝ }
-    requires { ⌜ first + blocksOfSamples m ≤ second ⌝ }
-    requires { ⌜ 512 * (second + blocksOfSamples m) ≤ length (now image) ⌝ }
-    requires { ⌜ R1SamplesKnown (now image) (now ps) first ⌝ }
-    requires { ⌜ Blank (now image) second (blocksOfSamples m) ⌝ }
-    ensures { λ _. ⌜ R0SamplesWritten (now (image .entry)) (now (image .exit)) (now (ps .entry)) second ⌝ }
+    requires { ⌜ «r0_samples» ≤ mostBlock ⌝ }
+    requires { ⌜ «r1_samples» + blocksOfSamples m ≤ «r0_samples» ⌝ }
+    requires { ⌜ 512 * («r0_samples» + blocksOfSamples m) ≤ length (now image) ⌝ }
+    requires { ⌜ R1SamplesKnown (now image) (now ps) «r1_samples» ⌝ }
+    requires { ⌜ Blank (now image) «r0_samples» (blocksOfSamples m) ⌝ }
+    ensures { λ _. ⌜ R0SamplesWritten (now (image .entry)) (now (image .exit)) (now (ps .entry)) «r0_samples» ⌝ }
 {
     let mut s: usize = 0;
     while 64 * s < m {
-        let place = wide(image_words::word(image, 512 * (first + s / 126) + 4 * (s % 126)));
+        let place = wide(image_words::word(image, sample_at(r1_samples, s)));
         let next = seal_r1_bits::next_entry(ps, place - 1);
-        image_words::put_word(image, 512 * (second + s / 126) + 4 * (s % 126), next as u32);
+        image_words::put_word(image, sample_at(r0_samples, s), next as u32);
         s += 1;
     }
 }

@@ -83,7 +83,7 @@ fn inner_r1_byte(ps: &[u32], i: usize) -> u8
     x
 }
 
-// The same at the end of the list: zeros after the last bit.
+// Eight bits of R1 as a byte, from bit i on, near the end of the list: zeros after the last bit.
 fn last_r1_byte(ps: &[u32], i: usize) -> u8
     requires { ⌜ i < length (now ps) ⌝ }
     requires { ⌜ length (now ps) ≤ 65535 ⌝ }

@@ -102,7 +102,7 @@ pub fn tree_end_by(b: &[u8], n: usize, at: usize, falls: &[[u8; 16]; 16]) -> Tre
     end
 }
 
-// The same, with a copy of the table of its own.
+// Where the tree that starts after `at` bits ends, with a copy of the table of falls of its own.
 pub fn tree_end(b: &[u8], n: usize, at: usize) -> TreeEnd
     requires { ⌜ at ≤ n ⌝ }
     requires { ⌜ n ≤ 131071 ⌝ }

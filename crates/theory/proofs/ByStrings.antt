@@ -14,7 +14,7 @@ use Rattle.meaning.specs.Trees.{Tree, nodes}
 use Rattle.meaning.specs.Strings.{Bit, O, I, ones, lbs, R1, R0}
 use Rattle.meaning.specs.Parents.{parents, entry, Rule}
 use Rattle.meaning.specs.Questions.{Ask, parent, firstChild, lastChild, nextSibling, previousSibling, degree, rank, child, leaf, sibling, isNone, childrenOf, childAt, siblingAt, answer}
-use Rattle.theory.specs.ByStrings.{whereZero, within, before, parentOf, childBy, siblingBy, byStrings}
+use Rattle.theory.specs.ByStrings.{whereZero, within, onesBeforeBy, parentOf, childBy, siblingBy, byStrings}
 use Rattle.theory.proofs.Bits.{I≢O}
 use Rattle.theory.proofs.Scan.{nodes-ones}
 use Rattle.theory.proofs.Parents.{parents-are}
@@ -49,7 +49,7 @@ by-bit I P r x y e f g = g (λ p. I≢O (e .1 p))
 module _ (t : Tree) where
   -- what the strings give: the ones before zero z, and the parent of x
   abbrev given : ℕ → ℕ
-  given z = before (R1 (lbs t)) (R0 (lbs t)) z
+  given z = onesBeforeBy (R1 (lbs t)) (R0 (lbs t)) z
 
   abbrev givenParent : ℕ → ℕ
   givenParent x = parentOf (R1 (lbs t)) (R0 (lbs t)) x
@@ -69,7 +69,7 @@ module _ (t : Tree) where
   low-mono x y h = omega (arith, low-later (suc x) (y - suc x), ap (lo t) (let e : suc x + (y - suc x) ≡ y = omega arith in e))
 
   before-is : (z : ℕ) → z ≤ suc (nodes t) → given z ≡ lo t z
-  unfolding before
+  unfolding onesBeforeBy
   before-is zero h = sym (onesBefore-zero (lbs t))
   before-is (suc z) h = sym (ones-before-is t (suc z) (omega arith) (omega (arith, nodes-ones t, tree-counts t)))
 

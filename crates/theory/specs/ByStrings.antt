@@ -26,32 +26,32 @@ within low high y = cond (ltb low y) (cond (leb y high) y 0) 0
 module _ (r1 r0 : List Bit) where
   -- the ones of the tree string before its zero number z: node x has its children after those of x,
   -- up to those of x + 1
-  unfoldable pub before : ℕ → ℕ
-  before zero = 0
-  before (suc z) = position r1 (1 + onesLeft r0 (suc z))
+  unfoldable pub onesBeforeBy : ℕ → ℕ
+  onesBeforeBy zero = 0
+  onesBeforeBy (suc z) = position r1 (1 + onesLeft r0 (suc z))
 
   unfoldable pub parentOf : ℕ → ℕ
   parentOf x = position r0 (onesLeft r1 x)
 
   unfoldable pub childBy : ℕ → ℤ → ℕ
-  unfolding before within
-  childBy x (pos k) = within (before x) (before (suc x)) (before x + k)
+  unfolding onesBeforeBy within
+  childBy x (pos k) = within (onesBeforeBy x) (onesBeforeBy (suc x)) (onesBeforeBy x + k)
   childBy x (negsuc k) = 0
 
   unfoldable pub siblingBy : ℕ → ℤ → ℕ
-  unfolding before parentOf within
-  siblingBy x (pos k) = within (before (parentOf x)) (before (suc (parentOf x))) (x + k)
-  siblingBy x (negsuc k) = within (before (parentOf x)) (before (suc (parentOf x))) (x - suc k)
+  unfolding onesBeforeBy parentOf within
+  siblingBy x (pos k) = within (onesBeforeBy (parentOf x)) (onesBeforeBy (suc (parentOf x))) (x + k)
+  siblingBy x (negsuc k) = within (onesBeforeBy (parentOf x)) (onesBeforeBy (suc (parentOf x))) (x - suc k)
 
   unfoldable pub byStrings : Ask → ℕ → ℤ → ℕ
-  unfolding before parentOf within childBy siblingBy
+  unfolding onesBeforeBy parentOf within childBy siblingBy
   byStrings parent x z = parentOf x
-  byStrings firstChild x z = within (before x) (before (suc x)) (before x + 1)
-  byStrings lastChild x z = within (before x) (before (suc x)) (before (suc x))
+  byStrings firstChild x z = within (onesBeforeBy x) (onesBeforeBy (suc x)) (onesBeforeBy x + 1)
+  byStrings lastChild x z = within (onesBeforeBy x) (onesBeforeBy (suc x)) (onesBeforeBy (suc x))
   byStrings nextSibling x z = whereZero (bitOf r1 x) (x + 1) 0
   byStrings previousSibling x z = cond (ltb 1 x) (whereZero (bitOf r1 (x - 1)) (x - 1) 0) 0
-  byStrings degree x z = before (suc x) - before x
-  byStrings rank x z = x - before (parentOf x)
+  byStrings degree x z = onesBeforeBy (suc x) - onesBeforeBy x
+  byStrings rank x z = x - onesBeforeBy (parentOf x)
   byStrings child x z = childBy x z
   byStrings leaf x z = whereZero (bitOf r0 x) 1 0
   byStrings sibling x z = siblingBy x z

@@ -34,9 +34,9 @@ byte-piece bytes at n w s g h =
     ∙ ap (λ p. bitsFrom bytes p s) (let e : 8 * at + 8 * w ≡ 8 * (at + w) + 0 = omega arith in e)
     ∙ bits-of-byte bytes (at + w) 0 s (omega arith)
 
-pub block-piece : (bytes : List ℕ) (first n j s : ℕ) → s ≤ 4000 → 4000 * j + s ≤ n
-    → take s (drop (4000 * j) (stringIn bytes first 0 n)) ≡ bitsFrom bytes (8 * (512 * (first + j) + 4)) s
-block-piece bytes first n j s g h =
+pub block-piece : (bytes : List ℕ) (first n j s at : ℕ) → at ≡ 512 * (first + j) + 4 → s ≤ 4000 → 4000 * j + s ≤ n
+    → take s (drop (4000 * j) (stringIn bytes first 0 n)) ≡ bitsFrom bytes (8 * at) s
+block-piece bytes first n j s at is-at g h =
     let i = 4000 * j in
     let t = n - i - s in
     ap (λ k. take s (drop i (stringIn bytes first 0 k))) (let e : n ≡ i + (s + t) = omega arith in e)
@@ -45,6 +45,7 @@ block-piece bytes first n j s g h =
     ∙ take-at (stringIn bytes first (0 + i) s) (stringIn bytes first (0 + i + s) t) s (length-stringIn bytes first (0 + i) s)
     ∙ ap (λ k. stringIn bytes first k s) (let e : 0 + i ≡ i = omega arith in e)
     ∙ stringIn-block bytes first j s g
+    ∙ ap (λ p. bitsFrom bytes (8 * p) s) (sym is-at)
 
 -- ---- what comes before and after a piece
 

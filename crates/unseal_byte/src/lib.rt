@@ -8,9 +8,8 @@ ghost use Rattle.unseal_byte.specs.Placed.{Placed};
 use bits_byte::bit_of;
 
 // Of the first n bits of a byte, which i bits come before, writes the position of each one, the
-// last of them before entry k of `out`, and
-// answers the entry of the first. A zero writes too, and what comes next writes over it, so that
-// nothing branches on a bit.
+// last of them before entry k of `out`, and answers the entry of the first. A zero writes too, and
+// what comes next writes over it, so that nothing branches on a bit.
 pub fn write_byte_positions(x: u8, n: usize, i: usize, k: usize, out: &mut [u32]) -> usize
     requires { ⌜ n ≤ 8 ⌝ }
     requires { ⌜ i + n ≤ 65535 ⌝ }

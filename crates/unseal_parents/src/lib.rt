@@ -10,6 +10,7 @@ ghost use Rattle.meaning.specs.Strings.{ones, parentsOf, woven};
 ghost use Rattle.theory.specs.Stages.{r1Samples, r0Block};
 ghost use Rattle.unseal_parents.specs.Spread.{InRuns, SpreadOut, spread};
 use bits_byte::bit_of;
+use image_layout::bits_at;
 use unseal_r0::write_string_positions;
 
 // For each of the first n bits of a byte, from entry i on, writes the number at entry p; a one
@@ -30,7 +31,8 @@ fn spread_byte(x: u8, n: usize, i: usize, p: usize, out: &mut [u32]) -> usize
     from
 }
 
-// The same of n bits from byte `at` on.
+// For each of n bits from byte `at` on, from entry i on, writes the number at entry p; a one moves p
+// on. Answers where p comes to.
 fn spread_block(b: &[u8], at: usize, n: usize, i: usize, p: usize, out: &mut [u32]) -> usize
     requires { ⌜ n ≤ 4000 ⌝ }
     requires { ⌜ at + 501 ≤ length (now b) ⌝ }
@@ -47,7 +49,8 @@ fn spread_block(b: &[u8], at: usize, n: usize, i: usize, p: usize, out: &mut [u3
     spread_byte(b[at + w], n % 8, i + 8 * w, from, out)
 }
 
-// The same of the first n bits of R1, which has one bit more, from entry 0 on.
+// For each of the first n bits of R1, which has one bit more, from entry 0 on, writes the number at
+// entry p; a one moves p on.
 fn spread_string(b: &[u8], n: usize, p: usize, out: &mut [u32])
     requires { ⌜ n ≤ 65535 ⌝ }
     requires { ⌜ 512 * (1 + n / 4000 + 1) ≤ length (now b) ⌝ }
@@ -58,16 +61,15 @@ fn spread_string(b: &[u8], n: usize, p: usize, out: &mut [u32])
     let mut from = p;
     let mut j: usize = 0;
     while j < n / 4000 {
-        from = spread_block(b, 512 * (1 + j) + 4, 4000, 4000 * j, from, out);
+        from = spread_block(b, bits_at(1 + j), 4000, 4000 * j, from, out);
         j += 1;
     }
-    spread_block(b, 512 * (1 + j) + 4, n % 4000, 4000 * j, from, out);
+    spread_block(b, bits_at(1 + j), n % 4000, 4000 * j, from, out);
 }
 
 // Writes the parents that R1 and R0 give: the nodes with children, which the ones of R0 before its
-// last bit name, go to the end of the list after
-// a 0 for the root's parent, and are spread from there over the list. The last node's parent then
-// is there already.
+// last bit name, go to the end of the list after a 0 for the root's parent, and are spread from
+// there over the list. The last node's parent then is there already.
 pub fn write_parents(b: &[u8], zeros: usize, n: usize, out: &mut [u32])
     requires { ⌜ n ≤ 65535 ⌝ }
     requires { ⌜ zeros ≡ r0Block n ⌝ }

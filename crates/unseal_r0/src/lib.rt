@@ -6,9 +6,11 @@ ghost use Rattle.meaning.specs.Bytes.{bitsFrom};
 ghost use Rattle.meaning.specs.Image.{stringIn};
 ghost use Rattle.meaning.specs.Strings.{ones};
 ghost use Rattle.unseal_byte.specs.Placed.{Placed};
+use image_layout::bits_at;
 use unseal_byte::write_byte_positions;
 
-// The same of n bits from byte `at` on.
+// Of n bits from byte `at` on, which i bits of their string come before, writes the position of each
+// one, the last of them before entry k of `out`, and answers the entry of the first.
 fn write_block_positions(
     b: &[u8],
     at: usize,
@@ -37,21 +39,22 @@ fn write_block_positions(
     low
 }
 
-// The same of the first n bits of the string whose blocks begin at block `first`, which has one bit
-// more; the last position goes to entry n - 1.
-pub fn write_string_positions(b: &[u8], first: usize, n: usize, out: &mut [u32]) -> usize
+// Of the first n bits of the string whose blocks begin at block `bits_block`, which has one bit
+// more, writes the position of each one, the last of them to entry n - 1 of `out`, and answers the
+// entry of the first.
+pub fn write_string_positions(b: &[u8], bits_block: usize, n: usize, out: &mut [u32]) -> usize
     requires { ⌜ n ≤ 65535 ⌝ }
-    requires { ⌜ first ≤ mostBlock ⌝ }
-    requires { ⌜ 512 * (first + n / 4000 + 1) ≤ length (now b) ⌝ }
-    requires { ⌜ ones (stringIn (now b) first 0 n) < n ⌝ }
+    requires { ⌜ «bits_block» ≤ mostBlock ⌝ }
+    requires { ⌜ 512 * («bits_block» + n / 4000 + 1) ≤ length (now b) ⌝ }
+    requires { ⌜ ones (stringIn (now b) «bits_block» 0 n) < n ⌝ }
     requires { ⌜ n ≤ length (now out) ⌝ }
-    ensures { λ r. ⌜ Placed (stringIn (now (b .entry)) first 0 n) 0 n (now (out .entry)) (now (out .exit)) r ⌝ }
+    ensures { λ r. ⌜ Placed (stringIn (now (b .entry)) «bits_block» 0 n) 0 n (now (out .entry)) (now (out .exit)) r ⌝ }
 {
     let mut j = n / 4000;
-    let mut low = write_block_positions(b, 512 * (first + j) + 4, n % 4000, 4000 * j, n, out);
+    let mut low = write_block_positions(b, bits_at(bits_block + j), n % 4000, 4000 * j, n, out);
     while 0 < j {
         j -= 1;
-        low = write_block_positions(b, 512 * (first + j) + 4, 4000, 4000 * j, low, out);
+        low = write_block_positions(b, bits_at(bits_block + j), 4000, 4000 * j, low, out);
     }
     low
 }

@@ -25,12 +25,9 @@ returns c = λ all.
     let a = s .args in
     omega (
       arith,
-      named-inside (a .b .now) (a .piece .at) (a .piece .bits) (a .piece .earlier) (a .nth) (c .before .word .result) (omega arith) (omega arith)
+      named-inside (a .b .now) (a .piece .at) (a .piece .bits) (a .piece .first) (a .nth) (c .before .word .result) (omega arith) (omega arith)
           (λ p l e d. c .before .word .ensures ∙ all p l e d) .0,
     )
-
-add-if2 : tie.Need-add-if2
-add-if2 c = search needs
 
 returns-2 : tie.Need-returns-2
 returns-2 c = λ all.
@@ -38,15 +35,9 @@ returns-2 c = λ all.
     let a = s .args in
     omega (
       arith,
-      named-inside (a .b .now) (a .piece .at) (a .piece .bits) (a .piece .earlier) (a .nth) (c .before .before .word .result) (omega arith) (omega arith)
+      named-inside (a .b .now) (a .piece .at) (a .piece .bits) (a .piece .first) (a .nth) (c .before .before .word .result) (omega arith) (omega arith)
           (λ p l e d. c .before .before .word .ensures ∙ all p l e d) .1,
     )
-
-sub-o : tie.Need-sub-o
-sub-o c = search needs
-
-sub-o-2 : tie.Need-sub-o-2
-sub-o-2 c = search needs
 
 mul-ones-ending : tie.Need-mul-ones-ending
 mul-ones-ending c = search needs
@@ -65,8 +56,8 @@ returns-3 c = λ all.
     let s = c .before .before .before .before .before .before in
     let a = s .args in
     let w = c .before .before .before .before .word in
-    let o = w .result - a .piece .earlier - 1 in
-    let one = named-one (a .b .now) (a .piece .at) (a .piece .bits) (a .piece .earlier) (a .nth) (w .result) (omega arith) (omega arith) (λ p l e d. w .ensures ∙ all p l e d) in
+    let o = w .result - a .piece .first in
+    let one = named-one (a .b .now) (a .piece .at) (a .piece .bits) (a .piece .first) (a .nth) (w .result) (omega arith) (omega arith) (λ p l e d. w .ensures ∙ all p l e d) in
     omega (
       arith,
       one-counted (a .b .now) (a .piece .at) o (getD (a .table .now) (o / 64) 0) (c .before .ones-ending .result) (s .pre .1 .1 .1 .1 .1 .1 .1 (o / 64) (omega arith))
@@ -82,11 +73,11 @@ element-copy-out-result c = search needs
 -- what the table has is no more than the bits before
 before : (c : tie.After-result)
     → let a = c .before .before .before .before .before .before .before .args in
-    getD (a .table .now) ((c .before .before .before .before .before .word .result - a .piece .earlier - 1) / 64) 0 + c .before .before .ones-ending .result ≤ 10000
+    getD (a .table .now) ((c .before .before .before .before .before .word .result - a .piece .first) / 64) 0 + c .before .before .ones-ending .result ≤ 10000
 before c =
     let s = c .before .before .before .before .before .before .before in
     let a = s .args in
-    let o = c .before .before .before .before .before .word .result - a .piece .earlier - 1 in
+    let o = c .before .before .before .before .before .word .result - a .piece .first in
     omega (
       arith,
       s .pre .1 .1 .1 .1 .1 .1 .1 (o / 64) (omega arith),
@@ -105,17 +96,17 @@ returns-4 c =
     let s = c .before .before .before .before .before .before .before in
     let a = s .args in
     let w = c .before .before .before .before .before .word in
-    let o = w .result - a .piece .earlier - 1 in
+    let o = w .result - a .piece .first in
     let r = c .before .before .ones-ending .result in
     let t = getD (a .table .now) (o / 64) 0 in
     let counts = s .pre .1 .1 .1 .1 .1 .1 .1 (o / 64) (omega arith) in
-    decides-is (t + r) (a .nth) (NamesOne (a .b .now) (a .piece .at) (a .piece .bits) (a .piece .earlier) (a .nth) (wordAt (a .b .now) (a .p)))
+    decides-is (t + r) (a .nth) (NamesOne (a .b .now) (a .piece .at) (a .piece .bits) (a .piece .first) (a .nth) (wordAt (a .b .now) (a .p)))
     (λ h.
     let one = counted-one (a .b .now) (a .piece .at) o t r counts (c .before .before .ones-ending .ensures) (c .before .if3 .left) in
     let here = one-counted (a .b .now) (a .piece .at) o t r counts (c .before .before .ones-ending .ensures) one in
-    λ p l e d. sym (w .ensures) ∙ named (a .b .now) (a .piece .at) (a .piece .bits) (a .piece .earlier) (a .nth) (w .result) (omega arith) one (sym (here .1) ∙ h) p l e d)
+    λ p l e d. sym (w .ensures) ∙ named (a .b .now) (a .piece .at) (a .piece .bits) (a .piece .first) (a .nth) (w .result) (omega arith) one (sym (here .1) ∙ h) p l e d)
     (λ all.
-    let one = named-one (a .b .now) (a .piece .at) (a .piece .bits) (a .piece .earlier) (a .nth) (w .result) (omega arith) (omega arith) (λ p l e d. w .ensures ∙ all p l e d) in
+    let one = named-one (a .b .now) (a .piece .at) (a .piece .bits) (a .piece .first) (a .nth) (w .result) (omega arith) (omega arith) (λ p l e d. w .ensures ∙ all p l e d) in
     one-counted (a .b .now) (a .piece .at) o t r counts (c .before .before .ones-ending .ensures) (one .0) .1 ∙ one .1)
 
 pub sample-right-spec : {M : Type 1} → statement M
@@ -125,10 +116,7 @@ sample-right-spec =
     word-requires
     cast-place
     returns
-    add-if2
     returns-2
-    sub-o
-    sub-o-2
     mul-ones-ending
     add-ones-ending
     ones-ending-requires

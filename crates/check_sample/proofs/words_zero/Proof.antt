@@ -9,8 +9,8 @@ use Rattle.check_sample.proofs.Ending.{rest-zero, zero-rest}
 use Rattle.check_sample.proofs.words_zero.Statement.{statement}
 use Rattle.check_sample.proofs.words_zero.Tie as tie
 
-add-samples : tie.Need-add-samples
-add-samples c = search needs
+add-count : tie.Need-add-count
+add-count c = search needs
 
 returns : tie.Need-returns
 returns c = search needs
@@ -38,15 +38,15 @@ returns-2 c =
     let a = c .before .before .before .args in
     let b = a .b .now in
     let s = (a .m + 63) / 64 in
-    let at = 512 * (a .from + s / 126) in
-    decides-same (c .all-zero .result) (ZeroBytes b (at + 4 * (s % 126)) (at + 504)) (RestZero b (a .from) (a .m))
-    (rest-zero b (a .from) (a .m) s refl (c .before .if1 .left) at refl) (zero-rest b (a .from) (a .m) s refl (c .before .if1 .left) at refl) (c .all-zero .ensures)
+    let at = 512 * (a .samples + s / 126) in
+    decides-same (c .all-zero .result) (ZeroBytes b (at + 4 * (s % 126)) (at + 504)) (RestZero b (a .samples) (a .m))
+    (rest-zero b (a .samples) (a .m) s refl (c .before .if1 .left) at refl) (zero-rest b (a .samples) (a .m) s refl (c .before .if1 .left) at refl) (c .all-zero .ensures)
 
 pub words-zero-spec : {M : Type 1} → statement M
 words-zero-spec =
     tie.close
     (tie.spec
-    add-samples
+    add-count
     returns
     add-at
     mul-at

@@ -5,9 +5,9 @@ use Prim.Native.Nat.{_+_, _≤_}
 use native.Mathlib.Omega.{arith}
 use Rattle.image_string.proofs.Blanks.{kept-counts}
 use Rattle.image_string.proofs.Saying.{decides-held, decides-missed, decides-same}
-use Rattle.check_samples.specs.Samples.{BlocksRight}
-use Rattle.check_samples.proofs.Sampling.{blocks-right, placed}
-use Rattle.check_counts.specs.Parts.{StringRight}
+use Rattle.check_counts_and_samples.specs.Samples.{BlocksRight}
+use Rattle.check_counts_and_samples.proofs.Sampling.{blocks-right, placed}
+use Rattle.check_ends.specs.Parts.{StringRight}
 use Rattle.meaning.specs.Image.{stringIn}
 use Rattle.theory.specs.Stages.{Sampled}
 use Rattle.image_string.proofs.Ones.{onesTo-le}

@@ -7,16 +7,16 @@ use lib.ListN.{length, length-set}
 use Rattle.meaning.specs.Image.{parentsIn}
 use Rattle.meaning.specs.Listing.{listing}
 use Rattle.list_measure.specs.declared.Measured.the-variants.{TooDeep}
-use Rattle.list_measure.specs.Levels.{low, below, sizeOf, levelsFrom}
+use Rattle.list_measure.specs.Levels.{onesBeforeIn, below, sizeOf, levelsFrom}
 use Rattle.list_measure.proofs.Levels.{levels-end, levels-deep, levels-more, levels-size}
-use Rattle.list_measure.proofs.Numbers.{low-mono, low-kids, low-most, before-low, most-nodes}
+use Rattle.list_measure.proofs.Numbers.{onesBeforeIn-mono, onesBeforeIn-kids, onesBeforeIn-most, by-is-in, most-nodes}
 use Rattle.list_measure.proofs.Cursors.{Found, found-more, found-all}
 use Rattle.list_measure.proofs.measure.Statement.{statement}
 use Rattle.list_measure.proofs.measure.Tie as tie
 
 abbrev Inv-loop : tie.InvT-loop
 Inv-loop b image x cursors₀ a₀ z₀ nodes₀ depth₀ cursors a z nodes depth =
-    (levelsFrom (λ k. low b (suc k)) (64 - depth) a z nodes ≡ sizeOf (listing 65 (parentsIn b) x 0)) × (a ≤ image .nodes) × (z ≤ image .nodes) × (nodes ≤ 65535 * depth)
+    (levelsFrom (λ k. onesBeforeIn b (suc k)) (64 - depth) a z nodes ≡ sizeOf (listing 65 (parentsIn b) x 0)) × (a ≤ image .nodes) × (z ≤ image .nodes) × (nodes ≤ 65535 * depth)
     × (depth ≤ 64) × (length cursors ≡ 64) × Found (below b) cursors depth a z (x - 1) x
 
 abbrev μ-loop : tie.MeasureT-loop
@@ -31,7 +31,7 @@ loop-holds c =
     let b = s .args .b .now in
     let i = s .args .image in
     let f = s .pre .0 .sound in (
-      levels-size (parentsIn b) (low b) (low-mono b i f) (low-kids b i f) (s .args .x) (s .pre .0 .some),
+      levels-size (parentsIn b) (onesBeforeIn b) (onesBeforeIn-mono b i f) (onesBeforeIn-kids b i f) (s .args .x) (s .pre .0 .some),
       omega arith,
       omega arith,
       omega arith,
@@ -51,7 +51,7 @@ returns c =
     let l = c .before .before .loop in
     let b = c .before .before .before .before .args .b .now in (
       ap TooDeep (let e : l .a + 1 ≡ suc (l .a) = omega arith in e)
-          ∙ sym (levels-deep (λ k. low b (suc k)) (64 - l .depth) (l .a) (l .z) (l .nodes) (omega arith) (c .before .loop-test .taken))
+          ∙ sym (levels-deep (λ k. onesBeforeIn b (suc k)) (64 - l .depth) (l .a) (l .z) (l .nodes) (omega arith) (c .before .loop-test .taken))
           ∙ l .inv .0,
       (l .inv .5, tt),
     )
@@ -96,16 +96,16 @@ loop-again c =
     let b = s .args .b .now in
     let i = s .args .image in
     let f = s .pre .0 .sound in
-    let e : c .before .ones-before-zero .result ≡ below b (l .a) = c .before .ones-before-zero .ensures ∙ before-low b i f (l .a + 1) (omega arith) (omega arith) in
-    let g : c .ones-before-zero2 .result ≡ below b (l .z) = c .ones-before-zero2 .ensures ∙ before-low b i f (l .z + 1) (omega arith) (omega arith) in
-    let next : (k : ℕ) → below b k ≡ low b (suc k) = λ k. ap (low b) (add-one k) in (
-      ap (λ d. levelsFrom (λ k. low b (suc k)) d (c .before .ones-before-zero .result) (c .ones-before-zero2 .result) (l .nodes + (l .z - l .a)))
+    let e : c .before .ones-before-zero .result ≡ below b (l .a) = c .before .ones-before-zero .ensures ∙ by-is-in b i f (l .a + 1) (omega arith) (omega arith) in
+    let g : c .ones-before-zero2 .result ≡ below b (l .z) = c .ones-before-zero2 .ensures ∙ by-is-in b i f (l .z + 1) (omega arith) (omega arith) in
+    let next : (k : ℕ) → below b k ≡ onesBeforeIn b (suc k) = λ k. ap (onesBeforeIn b) (add-one k) in (
+      ap (λ d. levelsFrom (λ k. onesBeforeIn b (suc k)) d (c .before .ones-before-zero .result) (c .ones-before-zero2 .result) (l .nodes + (l .z - l .a)))
           (let h : 64 - (l .depth + 1) ≡ 64 - l .depth - 1 = omega arith in h)
-          ∙ ap₂ (λ p q. levelsFrom (λ k. low b (suc k)) (64 - l .depth - 1) p q (l .nodes + (l .z - l .a))) (e ∙ next (l .a)) (g ∙ next (l .z))
-          ∙ sym (levels-more (λ k. low b (suc k)) (64 - l .depth) (l .a) (l .z) (l .nodes) (omega arith) (c .before .before .before .loop-test .taken))
+          ∙ ap₂ (λ p q. levelsFrom (λ k. onesBeforeIn b (suc k)) (64 - l .depth - 1) p q (l .nodes + (l .z - l .a))) (e ∙ next (l .a)) (g ∙ next (l .z))
+          ∙ sym (levels-more (λ k. onesBeforeIn b (suc k)) (64 - l .depth) (l .a) (l .z) (l .nodes) (omega arith) (c .before .before .before .loop-test .taken))
           ∙ l .inv .0,
-      omega (arith, e, low-most b i f (l .a + 1)),
-      omega (arith, g, low-most b i f (l .z + 1)),
+      omega (arith, e, onesBeforeIn-most b i f (l .a + 1)),
+      omega (arith, g, onesBeforeIn-most b i f (l .z + 1)),
       omega (arith, most-nodes b i f),
       omega arith,
       simp length-set (l .inv .5),
@@ -120,7 +120,7 @@ returns-2 c =
     let l = c .before .loop in
     let a = c .before .before .before .args in
     let b = a .b .now in (
-      sym (levels-end (λ k. low b (suc k)) (64 - l .depth) (l .a) (l .z) (l .nodes) (c .loop-test .left)) ∙ l .inv .0,
+      sym (levels-end (λ k. onesBeforeIn b (suc k)) (64 - l .depth) (l .a) (l .z) (l .nodes) (c .loop-test .left)) ∙ l .inv .0,
       (l .inv .5, found-all (below b) (l .cursors) (l .depth) (l .a) (l .z) (a .x - 1) (a .x) (c .loop-test .left) (l .inv .6)),
     )
 

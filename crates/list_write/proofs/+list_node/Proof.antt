@@ -7,9 +7,9 @@ use lib.ListN.{length, getD, set, take, drop, length-set, length-take, length-dr
 use Rattle.theory.specs.Stages.{nodesOf}
 use Rattle.image_found.specs.Checked.{layoutIn}
 use Rattle.bits_byte.proofs.Values.{value-le}
-use Rattle.list_measure.specs.Levels.{low, below}
+use Rattle.list_measure.specs.Levels.{onesBeforeIn, below}
 use Rattle.list_measure.specs.Cursors.{CursorsReady}
-use Rattle.list_measure.proofs.Numbers.{low-most, most-nodes, child-mark, last-mark}
+use Rattle.list_measure.proofs.Numbers.{onesBeforeIn-most, most-nodes, child-mark, last-mark}
 use Rattle.nav_strings.specs.Nodes.{IsNode}
 use Rattle.list_write.specs.Writing.{pairsOf, Listed}
 use Rattle.list_write.proofs.Cursors.{next-child}
@@ -19,8 +19,9 @@ use borrow.Fn.PlainCycle.{Measures, is, falls, and}
 use Rattle.list_write.proofs.list_node.Reads as list-node
 use Rattle.list_write.proofs.list_node.Kinds as list-node-kinds
 use Rattle.list_write.proofs.+list_node.Lts-list_node as list-node-lts
-use Rattle.list_write.proofs.has_child.Reads as has-child-reads
-use Rattle.list_write.proofs.is_last.Reads as is-last-reads
+use Rattle.nav_strings.proofs.Strings.{ready1}
+use Rattle.nav_strings.proofs.bit_r0.Reads as bit-r0-reads
+use Rattle.nav_strings.proofs.bit_r1.Reads as bit-r1-reads
 use Rattle.list_write.proofs.+list_node.{statement}
 use Rattle.list_write.proofs.+list_node.Tie.{close}
 
@@ -34,15 +35,15 @@ abbrev list-node-below : ℕ → In 3 list-node-kinds.ps
 list-node-below t = and 3 list-node-kinds.ps (falls 3 list-node-kinds.ps _<_ μ-list-node t) list-node.Pre
 
 abbrev claims : ℕ → list-node-lts.Claims
-claims t = (has-child-reads.Asked, has-child-reads.Learnt, list-node-below t, list-node.Post, is-last-reads.Asked, is-last-reads.Learnt)
+claims t = (bit-r0-reads.Asked, bit-r0-reads.Learnt, list-node-below t, list-node.Post, bit-r1-reads.Asked, bit-r1-reads.Learnt)
 
 -- the children up to some a are listed, and there are more of them exactly if `more` says so
 abbrev Inv : list-node-lts.InvT-loop
-Inv b zeros x left cursors₀ out₀ filled₀ level more₀ cursors out filled more =
-    (a : ℕ) × Going b x left cursors₀ out₀ cursors out filled a × (more ≡ 1 → a < low b (x + 1)) × ((more ≡ 1 → ⊥) → a ≡ low b (x + 1))
+Inv b r0-block x left cursors₀ out₀ filled₀ level more₀ cursors out filled more =
+    (a : ℕ) × Going b x left cursors₀ out₀ cursors out filled a × (more ≡ 1 → a < onesBeforeIn b (x + 1)) × ((more ≡ 1 → ⊥) → a ≡ onesBeforeIn b (x + 1))
 
 abbrev μ : list-node-lts.MeasureT-loop
-μ b zeros x left cursors₀ out₀ filled₀ level more₀ cursors out filled more = length out₀ - filled
+μ b r0-block x left cursors₀ out₀ filled₀ level more₀ cursors out filled more = length out₀ - filled
 
 -- the list once the node's own pair is written
 abbrev fronted : (t : ℕ) → list-node-lts.Start (claims t) (list-node-at t) list-node.Post Inv μ → List ℕ
@@ -71,8 +72,8 @@ slice-write-out-2 t c = let r = own t (c .before .before) in simp length-set (om
 sub-level : (t : ℕ) → list-node-lts.Need-sub-level (claims t) (list-node-at t) list-node.Post Inv μ
 sub-level t c = omega arith
 
-has-child-requires : (t : ℕ) → list-node-lts.Need-has-child-requires (claims t) (list-node-at t) list-node.Post Inv μ
-has-child-requires t c κs = let p = c .before .before .pre .1 in (p .node, p .begins)
+bit-r0-requires : (t : ℕ) → list-node-lts.Need-bit-r0-requires (claims t) (list-node-at t) list-node.Post Inv μ
+bit-r0-requires t c κs = let p = c .before .before .pre .1 in (p .node, p .begins)
 
 loop-holds : (t : ℕ) → list-node-lts.Need-loop-holds (claims t) (list-node-at t) list-node.Post Inv μ
 loop-holds t c =
@@ -80,9 +81,9 @@ loop-holds t c =
     let a = s .args in
     let b = a .b .now in
     let p = s .pre .1 in
-    let r = child-mark b (layoutIn b) (p .node .sound) (a .x) (c .has-child .result) (p .node .some) (p .node .most) (c .has-child .ensures) in
-    let bit = value-le _ _ (c .has-child .ensures) in (
-      low b (a .x),
+    let r = child-mark b (layoutIn b) (p .node .sound) (a .x) (c .bit-r0 .result) (p .node .some) (p .node .most) (c .bit-r0 .ensures) in
+    let bit = value-le _ _ (c .bit-r0 .ensures) in (
+      onesBeforeIn b (a .x),
       record {
         w = a .x ∷ (64 - a .left) ∷ [];
         front = pair-put (a .x) (64 - a .left) (a .out .now) (own t s .0);
@@ -100,11 +101,11 @@ loop-holds t c =
 -- the next child: its cursor is at the one before it
 record Next (b : List ℕ) (x left : ℕ) (cs₀ out₀ cs out : List ℕ) (filled : ℕ) : Type 0 where
   going : Going b x left cs₀ out₀ cs out filled (getD cs (65 - left) 0)
-  more : getD cs (65 - left) 0 < low b (x + 1)
+  more : getD cs (65 - left) 0 < onesBeforeIn b (x + 1)
   level : 65 - left < 64
   node : IsNode b (layoutIn b) (getD cs (65 - left) 0 + 1)
   most : nodesOf b ≤ 65535
-  ready : CursorsReady (below b) (drop (suc (65 - left)) (set cs (65 - left) (getD cs (65 - left) 0 + 1))) (low b (getD cs (65 - left) 0 + 1)) (low b (getD cs (65 - left) 0 + 1 + 1))
+  ready : CursorsReady (below b) (drop (suc (65 - left)) (set cs (65 - left) (getD cs (65 - left) 0 + 1))) (onesBeforeIn b (getD cs (65 - left) 0 + 1)) (onesBeforeIn b (getD cs (65 - left) 0 + 1 + 1))
   some : 2 ≤ length (pairsOf b (left - 1) (getD cs (65 - left) 0 + 1))
   room : (length out ≡ length out₀) × (filled + length (pairsOf b (left - 1) (getD cs (65 - left) 0 + 1)) ≤ length out₀)
 
@@ -126,15 +127,15 @@ child t c =
     let here = r .1 in
     let count = i .1 .count in
     let going = subst (λ k. Going b (a .x) (a .left) (a .cursors .now) (fronted t s) (l .cursors) (l .out) (l .filled) k) (sym here) (i .1) in
-    let more : getD (l .cursors) e 0 < low b (a .x + 1) = omega arith in
+    let more : getD (l .cursors) e 0 < onesBeforeIn b (a .x + 1) = omega arith in
     let pair = ap length (listing-step b (layoutIn b) f (a .left - 1) (getD (l .cursors) e 0 + 1) (omega arith) (omega arith)) in
     record {
       going = going;
       more = more;
       level = omega arith;
-      node = record { sound = f; some = omega arith; most = omega (arith, low-most b (layoutIn b) f (a .x + 1)) };
+      node = record { sound = f; some = omega arith; most = omega (arith, onesBeforeIn-most b (layoutIn b) f (a .x + 1)) };
       most = most-nodes b (layoutIn b) f;
-      ready = subst (λ k. CursorsReady (below b) (drop (suc e) (set (l .cursors) e (k + 1))) (low b (k + 1)) (low b (k + 1 + 1))) (sym here) (r .2);
+      ready = subst (λ k. CursorsReady (below b) (drop (suc e) (set (l .cursors) e (k + 1))) (onesBeforeIn b (k + 1)) (onesBeforeIn b (k + 1 + 1))) (sym here) (r .2);
       some = omega arith;
       room = going-room b (a .x) (a .left) (a .cursors .now) (fronted t s) (l .cursors) (l .out) (l .filled) (getD (l .cursors) e 0) going more (own t s .2);
     }
@@ -213,11 +214,18 @@ add-filled t c =
     let n = listed t (c .before .before) .many in
     omega arith
 
-is-last-requires : (t : ℕ) → list-node-lts.Need-is-last-requires (claims t) (list-node-at t) list-node.Post Inv μ
-is-last-requires t c κs = child t (c .before .before .before .before .before .before) .node
+cast-bit-r1 : (t : ℕ) → list-node-lts.Need-cast-bit-r1 (claims t) (list-node-at t) list-node.Post Inv μ
+cast-bit-r1 t c =
+    let k = c .before .before .before .before .before .before in
+    let b = k .before .before .before .before .before .args .b .now in
+    let node = child t k .node in
+    omega (arith, node .most, ready1 b (layoutIn b) (node .sound) .most)
+
+bit-r1-requires : (t : ℕ) → list-node-lts.Need-bit-r1-requires (claims t) (list-node-at t) list-node.Post Inv μ
+bit-r1-requires t c κs = child t (c .before .before .before .before .before .before) .node
 
 sub-more : (t : ℕ) → list-node-lts.Need-sub-more (claims t) (list-node-at t) list-node.Post Inv μ
-sub-more t c = let bit = value-le _ _ (c .is-last .ensures) in omega arith
+sub-more t c = let bit = value-le _ _ (c .bit-r1 .ensures) in omega arith
 
 loop-again : (t : ℕ) → list-node-lts.Need-loop-again (claims t) (list-node-at t) list-node.Post Inv μ
 loop-again t c =
@@ -232,8 +240,8 @@ loop-again t c =
     let level = r .level in
     let more = r .more in
     let from = r .going .from in
-    let bit = value-le _ _ (c .is-last .ensures) in
-    let last = last-mark b (layoutIn b) f (a .x) (y + 1) (c .is-last .result) (omega arith) (omega arith) (c .is-last .ensures) in (
+    let bit = value-le _ _ (c .bit-r1 .ensures) in
+    let last = last-mark b (layoutIn b) f (a .x) (y + 1) (c .bit-r1 .result) (omega arith) (omega arith) (c .bit-r1 .ensures) in (
       y + 1,
       going-more b (a .x) (a .left) (a .cursors .now) (fronted t s) (l .cursors) (l .out) (l .filled) y (r .going) (r .more) (own t s .2) (layoutIn b) f (omega arith)
           (omega arith) _ _ _ _ refl (listed t (c .before .before .before)),
@@ -265,7 +273,7 @@ returns t c =
       many = all .1;
       count = i .1 .count;
       above = i .1 .above;
-      moved = λ y h r. subst (λ k. CursorsReady (below b) (drop (65 - a .left) (l .cursors)) k (low b y)) none (i .1 .along y h r);
+      moved = λ y h r. subst (λ k. CursorsReady (below b) (drop (65 - a .left) (l .cursors)) k (onesBeforeIn b y)) none (i .1 .along y h r);
     }
 
 same-length : (t : ℕ) → list-node-lts.Need-same-length (claims t) (list-node-at t) list-node.Post Inv μ
@@ -283,7 +291,7 @@ pub +list-node-spec : {M : Type 1} → statement M
     (sub-out t)
     (slice-write-out-2 t)
     (sub-level t)
-    (has-child-requires t)
+    (bit-r0-requires t)
     (loop-holds t)
     (mul-child t)
     (element-copy-out-child t)
@@ -297,7 +305,8 @@ pub +list-node-spec : {M : Type 1} → statement M
     (part-list-node-end t)
     (list-node-requires t)
     (add-filled t)
-    (is-last-requires t)
+    (cast-bit-r1 t)
+    (bit-r1-requires t)
     (sub-more t)
     (loop-less t)
     (loop-again t)

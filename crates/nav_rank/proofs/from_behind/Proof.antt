@@ -1,6 +1,6 @@
 -- `nav_rank::from_behind` meets its contract.
-use mathlib.Core.Path.{_≡_, refl}
-use Prim.Native.Nat.{ℕ, _+_, _*_}
+use mathlib.Core.Path.{_≡_, refl, _∙_, ap}
+use Prim.Native.Nat.{ℕ, _+_, _-_, _*_, _/_, _%_}
 use native.Mathlib.Omega.{arith}
 use Rattle.meaning.specs.Strings.{ones}
 use Rattle.meaning.specs.Bytes.{bitsFrom}
@@ -10,24 +10,27 @@ use Rattle.nav_rank.proofs.from_behind.Statement.{statement}
 use Rattle.nav_rank.proofs.from_behind.Tie as tie
 
 -- what is taken off, whatever the half word at the end has
-taken : (c : tie.After-ones-in-words) → (last : ℕ) → let a = c .before .before .before .args in
-    last ≡ ones (bitsFrom (a .b .now) (8 * (512 * (a .first + a .j) + 4 + 496)) 32)
-    → a .end + c .before .ones-before .result ≡ onesTo (a .b .now) (a .first) (4000 * a .j + a .p) + (c .ones-in-words .result + last)
+taken : (c : tie.After-ones-in-words) → (last : ℕ) → let bits = c .before .before in
+    let a = bits .before .before .args in
+    last ≡ ones (bitsFrom (a .b .now) (8 * (bits .bits-at .result + 496)) 32)
+    → a .end + c .before .ones-before .result ≡ onesTo (a .b .now) (a .bits-block) (4000 * a .j + a .p) + (c .ones-in-words .result + last)
 taken c last e =
-    let s = c .before .before .before in
+    let bits = c .before .before in
+    let s = bits .before .before in
     let a = s .args in
     let p = s .pre in
-    behind-is (a .b .now) (a .first) (a .j) (a .p) (p .0) (a .end) (c .before .ones-before .result) (c .ones-in-words .result) last (p .1 .1 .1 .1)
-    (c .before .ones-before .ensures) (c .ones-in-words .ensures) e
+    let at = bits .bits-at .ensures in
+    let rest = c .before .ones-before .ensures ∙ ap (λ q. ones (bitsFrom (a .b .now) (8 * (q + 8 * (a .p / 64))) (a .p % 64))) at in
+    let words = c .ones-in-words .ensures ∙ ap (λ q. ones (bitsFrom (a .b .now) (8 * (q + 8 * (a .p / 64))) (64 * (62 - a .p / 64)))) at in
+    let half = e ∙ ap (λ q. ones (bitsFrom (a .b .now) (8 * (q + 496)) 32)) at in
+    behind-is (a .b .now) (a .bits-block) (a .j) (a .p) (p .0) (a .end) (c .before .ones-before .result) (c .ones-in-words .result) last (p .1 .1 .1 .1)
+    rest words half
 
-add-start : tie.Need-add-start
-add-start c = omega arith
+add-bits-at : tie.Need-add-bits-at
+add-bits-at c = omega arith
 
-mul-start : tie.Need-mul-start
-mul-start c = omega arith
-
-add-start-2 : tie.Need-add-start-2
-add-start-2 c = omega arith
+bits-at-requires : tie.Need-bits-at-requires
+bits-at-requires c κs = omega arith
 
 mul-at : tie.Need-mul-at
 mul-at c = omega arith
@@ -55,8 +58,8 @@ cast-result-2 c = omega arith
 
 sub-result : tie.Need-sub-result
 sub-result c =
-    let a = c .before .before .before .args in
-    omega (arith, taken c (ones (bitsFrom (a .b .now) (8 * (512 * (a .first + a .j) + 4 + 496)) 32)) refl)
+    let bits = c .before .before in
+    omega (arith, taken c (ones (bitsFrom (bits .before .before .args .b .now) (8 * (bits .bits-at .result + 496)) 32)) refl)
 
 add-ones-before : tie.Need-add-ones-before
 add-ones-before c = omega arith
@@ -77,9 +80,8 @@ pub from-behind-spec : {M : Type 1} → statement M
 from-behind-spec =
     tie.close
     (tie.spec
-    add-start
-    mul-start
-    add-start-2
+    add-bits-at
+    bits-at-requires
     mul-at
     add-at
     ones-before-requires

@@ -1,18 +1,18 @@
 -- `nav_rank::from_front` meets its contract.
-use mathlib.Core.Path.{_∙_}
+use mathlib.Core.Path.{_∙_, ap}
+use Prim.Native.Nat.{_+_, _*_, _/_, _%_}
+use Rattle.meaning.specs.Strings.{ones}
+use Rattle.meaning.specs.Bytes.{bitsFrom}
 use Rattle.nav_rank.proofs.Counts.{front-is}
 use native.Mathlib.Omega.{arith}
 use Rattle.nav_rank.proofs.from_front.Statement.{statement}
 use Rattle.nav_rank.proofs.from_front.Tie as tie
 
-add-start : tie.Need-add-start
-add-start c = omega arith
+add-bits-at : tie.Need-add-bits-at
+add-bits-at c = omega arith
 
-mul-start : tie.Need-mul-start
-mul-start c = omega arith
-
-add-start-2 : tie.Need-add-start-2
-add-start-2 c = omega arith
+bits-at-requires : tie.Need-bits-at-requires
+bits-at-requires c κs = omega arith
 
 add-word : tie.Need-add-word
 add-word c = omega arith
@@ -52,19 +52,22 @@ add-result-2 c = omega arith
 
 returns : tie.Need-returns
 returns c =
-    let s = c .before .before .before .before in
+    let bits = c .before .before .before in
+    let s = bits .before .before in
     let a = s .args in
     let p = s .pre in
-    front-is (a .b .now) (a .first) (a .j) (a .p) (p .0) (c .before .before .word .result) (c .before .ones-in-words .result) (c .ones-before .result)
-    (c .before .before .word .ensures ∙ p .1 .1 .1) (c .before .ones-in-words .ensures) (c .ones-before .ensures)
+    let at = bits .bits-at .ensures in
+    let words = c .before .ones-in-words .ensures ∙ ap (λ q. ones (bitsFrom (a .b .now) (8 * q) (64 * (a .p / 64)))) at in
+    let rest = c .ones-before .ensures ∙ ap (λ q. ones (bitsFrom (a .b .now) (8 * (q + 8 * (a .p / 64))) (a .p % 64))) at in
+    front-is (a .b .now) (a .bits-block) (a .j) (a .p) (p .0) (c .before .before .word .result) (c .before .ones-in-words .result) (c .ones-before .result)
+    (c .before .before .word .ensures ∙ p .1 .1 .1) words rest
 
 pub from-front-spec : {M : Type 1} → statement M
 from-front-spec =
     tie.close
     (tie.spec
-    add-start
-    mul-start
-    add-start-2
+    add-bits-at
+    bits-at-requires
     add-word
     mul-word
     word-requires

@@ -15,13 +15,13 @@ from-front-requires : tie.Need-from-front-requires
 from-front-requires c κs =
     let s = c .before .before in
     let a = s .args in
-    (omega arith, (omega arith, (omega arith, kept-count (a .b .now) (a .first) (a .n) (s .pre .1 .1 .1 .1 .1 .1) ((a .x - 1) / 4000) (omega arith))))
+    (omega arith, (omega arith, (omega arith, kept-count (a .b .now) (a .bits-block) (a .n) (s .pre .1 .1 .1 .1 .1 .1) ((a .x - 1) / 4000) (omega arith))))
 
 returns : tie.Need-returns
 returns c =
     let s = c .before .before .before in
     let a = s .args in
-    rank-is (a .b .now) (a .first) (a .n) (a .x) (s .pre .0) (s .pre .1 .0) (c .from-front .result) (c .from-front .ensures)
+    rank-is (a .b .now) (a .bits-block) (a .n) (a .x) (s .pre .0) (s .pre .1 .0) (c .from-front .result) (c .from-front .ensures)
 
 ones-to-end-requires : tie.Need-ones-to-end-requires
 ones-to-end-requires c κs =
@@ -35,7 +35,7 @@ returns-2 : tie.Need-returns-2
 returns-2 c =
     let s = c .before .before .before .before in
     let a = s .args in
-    rank-is (a .b .now) (a .first) (a .n) (a .x) (s .pre .0) (s .pre .1 .0) (c .from-behind .result) (c .from-behind .ensures)
+    rank-is (a .b .now) (a .bits-block) (a .n) (a .x) (s .pre .0) (s .pre .1 .0) (c .from-behind .result) (c .from-behind .ensures)
 
 pub rank-spec : {M : Type 1} → statement M
 rank-spec =

@@ -9,21 +9,22 @@ use Rattle.nav_select_in_block.proofs.block_of.Statement.{statement}
 use Rattle.nav_select_in_block.proofs.block_of.Tie as tie
 
 abbrev Inv-loop : tie.InvT-loop
-Inv-loop b first n j k last i₀ i = (j ≤ i) × (i ≤ last) × (onesTo b first (4000 * i) < k)
+Inv-loop b bits-block n j k last i₀ i = (j ≤ i) × (i ≤ last) × (onesTo b bits-block (4000 * i) < k)
 
 abbrev μ-loop : tie.MeasureT-loop
-μ-loop b first n j k last i₀ i = last - i
+μ-loop b bits-block n j k last i₀ i = last - i
 
 -- the count of the next block
-counted : (c : tie.After-word Inv-loop μ-loop)
-    → c .word .result ≡ onesTo (c .before .before .before .before .args .b .now) (c .before .before .before .before .args .first) (4000 * (c .before .before .loop .i + 1))
+counted : (c : tie.After-word Inv-loop μ-loop) → let a = c .before .before .before .before .before .args in
+    c .word .result ≡ onesTo (a .b .now) (a .bits-block) (4000 * (c .before .before .loop .i + 1))
 counted c =
-    let a = c .before .before .before .before .args in
+    let s = c .before .before .before .before .before in
+    let a = s .args in
     let i = c .before .before .loop .i in
-    c .word .ensures ∙ next-end (a .b .now) (a .first) (a .n) (c .before .before .before .before .pre .1 .1 .1 .0) i (omega arith)
+    c .word .ensures ∙ next-end (a .b .now) (a .bits-block) (a .n) (s .pre .1 .1 .1 .0) i (omega arith)
 
-sub-last : tie.Need-sub-last Inv-loop μ-loop
-sub-last c = omega arith
+last-block-requires : tie.Need-last-block-requires Inv-loop μ-loop
+last-block-requires c κs = omega arith
 
 loop-holds : tie.Need-loop-holds Inv-loop μ-loop
 loop-holds c = (omega arith, omega arith, omega arith)
@@ -57,9 +58,9 @@ loop-again c = (omega arith, omega arith, omega (arith, counted (c .before)))
 
 returns-2 : tie.Need-returns-2 Inv-loop μ-loop
 returns-2 c =
-    let a = c .before .before .before .args in
+    let a = c .before .before .before .before .args in
     let i = c .before .loop .i in
-    (omega arith, omega arith, omega arith, omega (arith, onesTo-mono (a .b .now) (a .first) (a .n) (4000 * (i + 1)) (omega arith)))
+    (omega arith, omega arith, omega arith, omega (arith, onesTo-mono (a .b .now) (a .bits-block) (a .n) (4000 * (i + 1)) (omega arith)))
 
 pub block-of-spec : {M : Type 1} → statement M
 block-of-spec =
@@ -67,7 +68,7 @@ block-of-spec =
     (tie.spec
     Inv-loop
     μ-loop
-    sub-last
+    last-block-requires
     loop-holds
     add-word
     add-word-2

@@ -14,32 +14,35 @@ use Rattle.nav_select_in_block.proofs.place_after.Tie as tie
 
 -- the one is in what is read
 there : (c : tie.After-ones-in-front)
-    → let a = c .before .before .before .args in
-    let at = 512 * (a .first + a .i / 4000) + 4 + a .i % 4000 / 8 in
+    → let bits = c .before .before in
+    let a = bits .before .before .args in
+    let at = bits .bits-at .result + a .i % 4000 / 8 in
     c .ones-in-front .result + a .more + 1 ≤ ones (bitsFrom (a .b .now) (8 * at) (8 * (length (a .b .now) - 7 - at)))
 there c =
-    let s = c .before .before .before in
+    let bits = c .before .before in
+    let s = bits .before .before in
     let a = s .args in
-    after-read (a .b .now) (a .first) (a .i) (c .ones-in-front .result) (a .more) (c .ones-in-front .ensures) (s .pre .1 .1 .1 .1) (length (a .b .now)) (s .pre .1 .1 .1 .0)
+    let at = bits .bits-at .result + a .i % 4000 / 8 in
+    after-read (a .b .now) (a .bits-block) (a .i) at (omega arith) (c .ones-in-front .result) (a .more) (c .ones-in-front .ensures) (s .pre .1 .1 .1 .1)
+    (length (a .b .now)) (s .pre .1 .1 .1 .0)
 
-most : (c : tie.After-ones-in-front) → c .ones-in-front .result + c .before .before .before .args .more + 1 ≤ 8 * length (c .before .before .before .args .b .now)
+most : (c : tie.After-ones-in-front) → let a = c .before .before .before .before .args in
+    c .ones-in-front .result + a .more + 1 ≤ 8 * length (a .b .now)
 most c =
-    let a = c .before .before .before .args in
-    let at = 512 * (a .first + a .i / 4000) + 4 + a .i % 4000 / 8 in
+    let bits = c .before .before in
+    let a = bits .before .before .args in
+    let at = bits .bits-at .result + a .i % 4000 / 8 in
     let n = length (a .b .now) in
     omega (arith, there c, bits-ones-le (a .b .now) (8 * at) (8 * (n - 7 - at)))
 
+add-bits-at : tie.Need-add-bits-at
+add-bits-at c = omega arith
+
+bits-at-requires : tie.Need-bits-at-requires
+bits-at-requires c κs = omega arith
+
 add-at : tie.Need-add-at
 add-at c = omega arith
-
-mul-at : tie.Need-mul-at
-mul-at c = omega arith
-
-add-at-2 : tie.Need-add-at-2
-add-at-2 c = omega arith
-
-add-at-3 : tie.Need-add-at-3
-add-at-3 c = omega arith
 
 shared-slice-read-ones-in-front : tie.Need-shared-slice-read-ones-in-front
 shared-slice-read-ones-in-front c = omega arith
@@ -64,28 +67,31 @@ place-from-requires c κs = (omega arith, (omega arith, there c))
 
 add-result : tie.Need-add-result
 add-result c =
-    let a = c .before .before .before .before .args in
+    let bits = c .before .before .before in
+    let a = bits .before .before .args in
     let b = a .b .now in
-    let at = 512 * (a .first + a .i / 4000) + 4 + a .i % 4000 / 8 in
+    let at = bits .bits-at .result + a .i % 4000 / 8 in
     let n = length b in
     let k = c .before .ones-in-front .result + a .more + 1 in
     omega (arith, c .place-from .ensures, place-le (bitsFrom b) (bits-cut b) (bits-length b) (8 * at) (8 * (n - 7 - at)) k)
 
 returns : tie.Need-returns
 returns c =
-    let s = c .before .before .before .before in
+    let bits = c .before .before .before in
+    let s = bits .before .before in
     let a = s .args in
+    let at = bits .bits-at .result + a .i % 4000 / 8 in
+    let front = c .before .ones-in-front in
     ap (λ n. a .i - a .i % 8 + n) (c .place-from .ensures)
-    ∙ after-is (a .b .now) (a .first) (a .i) (c .before .ones-in-front .result) (a .more) (c .before .ones-in-front .ensures) (s .pre .1 .1 .1 .1) (length (a .b .now)) (s .pre .1 .1 .1 .0)
+    ∙ after-is (a .b .now) (a .bits-block) (a .i) at (omega arith) (front .result) (a .more) (front .ensures) (s .pre .1 .1 .1 .1) (length (a .b .now)) (s .pre .1 .1 .1 .0)
 
 pub place-after-spec : {M : Type 1} → statement M
 place-after-spec =
     tie.close
     (tie.spec
+    add-bits-at
+    bits-at-requires
     add-at
-    mul-at
-    add-at-2
-    add-at-3
     shared-slice-read-ones-in-front
     ones-in-front-requires
     sub-result

@@ -1,5 +1,8 @@
 -- `nav_sibling_range::run_last` meets its contract.
+use mathlib.Core.Path.{subst}
+use Prim.Native.Nat.{_-_, _*_, _%_}
 use native.Mathlib.Omega.{arith}
+use Rattle.bits_nearest.specs.Found.{FirstOne}
 use Rattle.nav_strings.proofs.Strings.{ready1}
 use Rattle.nav_sibling_range.proofs.Near.{near-right}
 use borrow.Author.Needs.{needs}
@@ -9,18 +12,18 @@ use Rattle.nav_sibling_range.proofs.run_last.Tie as tie
 sub-i : tie.Need-sub-i
 sub-i c = search needs
 
-add-first-one : tie.Need-add-first-one
-add-first-one c = search needs
+add-bits-at : tie.Need-add-bits-at
+add-bits-at c = search needs
 
-mul-first-one : tie.Need-mul-first-one
-mul-first-one c = search needs
-
-add-first-one-2 : tie.Need-add-first-one-2
-add-first-one-2 c = search needs
+bits-at-requires : tie.Need-bits-at-requires
+bits-at-requires c κs =
+    let s = c .before in
+    let r = ready1 (s .args .b .now) (s .args .image) (s .pre .sound) in
+    omega (arith, r .most)
 
 first-one-requires : tie.Need-first-one-requires
 first-one-requires c κs =
-    let s = c .before in
+    let s = c .before .before in
     let a = s .args in
     let r = ready1 (a .b .now) (a .image) (s .pre .sound) in
     (omega arith, omega (arith, r .most, r .room))
@@ -40,16 +43,17 @@ add-result c = omega (arith, c .before .first-one .ensures .within)
 returns-2 : tie.Need-returns-2
 returns-2 c =
     let found = c .before .first-one in
-    near-right (c .before .before .before .pre) (found .result) (found .ensures) (c .if1 .left)
+    let bits = c .before .before in
+    let s = bits .before .before in
+    near-right (s .pre) (found .result) (subst (λ p. FirstOne (s .args .b .now) (8 * p) ((s .args .x - 1) % 4000) (found .result)) (bits .bits-at .ensures) (found .ensures)) (c .if1 .left)
 
 pub run-last-spec : {M : Type 1} → statement M
 run-last-spec =
     tie.close
     (tie.spec
     sub-i
-    add-first-one
-    mul-first-one
-    add-first-one-2
+    add-bits-at
+    bits-at-requires
     first-one-requires
     far-last-requires
     returns

@@ -1,5 +1,6 @@
 -- `nav_siblings::next_sibling` meets its contract.
 use native.Mathlib.Omega.{arith}
+use Rattle.nav_strings.proofs.Bits.{node-in}
 use Rattle.nav_sibling_range.proofs.Own.{strings}
 use Rattle.nav_siblings.proofs.Siblings.{next-none, next-some}
 use borrow.Author.Needs.{needs}
@@ -7,7 +8,7 @@ use Rattle.nav_siblings.proofs.next_sibling.Statement.{statement}
 use Rattle.nav_siblings.proofs.next_sibling.Tie as tie
 
 bit-r1-requires : tie.Need-bit-r1-requires
-bit-r1-requires c κs = search needs
+bit-r1-requires c κs = node-in (c .before .pre)
 
 returns : tie.Need-returns
 returns c = next-none (c .before .before .before .pre) (c .before .bit-r1 .result) (c .before .bit-r1 .ensures) (c .if1 .taken)

@@ -1,5 +1,6 @@
 -- `nav_siblings::previous_sibling` meets its contract.
 use native.Mathlib.Omega.{arith}
+use Rattle.nav_strings.proofs.Bits.{node-in}
 use Rattle.nav_siblings.proofs.Siblings.{previous-first, previous-none, previous-some}
 use borrow.Author.Needs.{needs}
 use Rattle.nav_siblings.proofs.previous_sibling.Statement.{statement}
@@ -12,7 +13,9 @@ sub-bit-r1 : tie.Need-sub-bit-r1
 sub-bit-r1 c = search needs
 
 bit-r1-requires : tie.Need-bit-r1-requires
-bit-r1-requires c κs = search needs
+bit-r1-requires c κs =
+    let node = c .before .before .pre in
+    node-in (record { sound = node .sound; some = omega arith; most = omega (arith, node .most) })
 
 returns-2 : tie.Need-returns-2
 returns-2 c =

@@ -1,5 +1,6 @@
 -- `nav_strings::bit_r1` meets its contract.
 use native.Mathlib.Omega.{arith}
+use Rattle.image_found.specs.Checked.{layoutIn}
 use Rattle.nav_strings.proofs.Strings.{ready1}
 use Rattle.nav_strings.proofs.Bits.{bit1}
 use borrow.Author.Needs.{needs}
@@ -12,8 +13,10 @@ sub-string-bit c = search needs
 string-bit-requires : tie.Need-string-bit-requires
 string-bit-requires c κs =
     let s = c .before in
-    let r = ready1 (s .args .b .now) (s .args .image) (s .pre .sound) in
-    (omega (arith, r .most), (omega arith, omega (arith, r .room)))
+    let b = s .args .b .now in
+    let n = s .pre in
+    let r = ready1 b (layoutIn b) (n .sound) in
+    (omega (arith, n .some, n .most, r .most), (omega arith, omega (arith, n .some, n .most, r .room)))
 
 returns : tie.Need-returns
 returns c = bit1 (c .before .before .pre) (c .string-bit .result) (c .string-bit .ensures)

@@ -7,10 +7,10 @@ use Rattle.seal_frame.proofs.put_counts.Statement.{statement}
 use Rattle.seal_frame.proofs.put_counts.Tie as tie
 
 abbrev Inv-loop : tie.InvT-loop
-Inv-loop image₀ from n end c₀ j₀ image c j = Counting image₀ image from n c j
+Inv-loop image₀ bits-block n end c₀ j₀ image c j = Counting image₀ image bits-block n c j
 
 abbrev μ-loop : tie.MeasureT-loop
-μ-loop image₀ from n end c₀ j₀ image c j = end - j
+μ-loop image₀ bits-block n end c₀ j₀ image c j = end - j
 
 string-blocks-requires : tie.Need-string-blocks-requires Inv-loop μ-loop
 string-blocks-requires c κs = search needs
@@ -27,21 +27,18 @@ mul-put-word c = search needs
 put-word-requires : tie.Need-put-word-requires Inv-loop μ-loop
 put-word-requires c κs = search needs
 
-add-ones-from : tie.Need-add-ones-from Inv-loop μ-loop
-add-ones-from c = search needs
+add-bits-at : tie.Need-add-bits-at Inv-loop μ-loop
+add-bits-at c = search needs
 
-mul-ones-from : tie.Need-mul-ones-from Inv-loop μ-loop
-mul-ones-from c = search needs
-
-add-ones-from-2 : tie.Need-add-ones-from-2 Inv-loop μ-loop
-add-ones-from-2 c = search needs
+bits-at-requires : tie.Need-bits-at-requires Inv-loop μ-loop
+bits-at-requires c κs = search needs
 
 ones-from-requires : tie.Need-ones-from-requires Inv-loop μ-loop
 ones-from-requires c κs = search needs
 
 add-c : tie.Need-add-c Inv-loop μ-loop
 add-c c =
-    let few = counting-few _ _ _ _ _ _ (c .before .before .before .before .before .before .before .loop .inv) in
+    let few = counting-few _ _ _ _ _ _ (c .before .before .before .before .before .before .before .before .loop .inv) in
     let more = block-few _ _ _ (c .ones-from .ensures) in
     omega arith
 
@@ -53,10 +50,10 @@ loop-less c = search needs
 
 loop-again : tie.Need-loop-again Inv-loop μ-loop
 loop-again c =
-    let put = c .before .before .before .before in
+    let put = c .before .before .before .before .before in
     let l = put .before .before .before .loop in
     let p = put .before .before .before .before .before .before .pre in
-    counting-next _ _ _ _ _ _ (l .inv) (omega arith) (p .1 .0) (p .1 .1) _ _ (put .put-word .ensures) (c .ones-from .ensures)
+    counting-next _ _ _ _ _ _ (l .inv) (omega arith) (p .1 .0) (p .1 .1) _ _ _ (put .put-word .ensures) (c .before .bits-at .ensures) (c .ones-from .ensures)
 
 same-length : tie.Need-same-length Inv-loop μ-loop
 same-length c = c .before .loop .inv .kept
@@ -75,9 +72,8 @@ put-counts-spec =
     add-put-word
     mul-put-word
     put-word-requires
-    add-ones-from
-    mul-ones-from
-    add-ones-from-2
+    add-bits-at
+    bits-at-requires
     ones-from-requires
     add-c
     add-j

@@ -1,15 +1,15 @@
 -- `seal_r0::write_r0` meets its contract.
-use Prim.Native.Nat.{_-_, _/_, _%_, _^_}
+use Prim.Native.Nat.{_+_, _-_, _*_, _/_, _%_, _^_, _<_}
 use lib.Bits.{bitOr}
 use lib.ListN.{length, getD, set, length-set}
 use mathlib.Core.Logic.{⊎-elim}
-use mathlib.Core.Path.{_∙_, sym, ap, ap₂}
+use mathlib.Core.Path.{_∙_, sym, ap, ap₂, subst}
 use native.Mathlib.Omega.{arith}
-use Rattle.theory.specs.Layout.{bitPlace}
+use Rattle.bits_byte.specs.Lit.{lit}
 use Rattle.bits_append.proofs.Appending.{lit-length}
 use Rattle.parents_check.proofs.Rising.{good-parents}
 use Rattle.seal_r1.specs.Passes.{bytePlace}
-use Rattle.seal_r0.proofs.Gapping.{Gapping, gapping-first, gapping-low, gapping-other, gapping-same, gapping-last}
+use Rattle.seal_r0.proofs.Gapping.{Gapping, gapping-first, gapping-low, gapping-other, gapping-same, gapping-last, last-bit-inside}
 use borrow.Author.Needs.{needs}
 use Rattle.seal_r0.proofs.write_r0.Statement.{statement}
 use Rattle.seal_r0.proofs.write_r0.Tie as tie
@@ -120,48 +120,50 @@ byte-place-requires-3 c κs = search needs
 slice-write-image-2 : tie.Need-slice-write-image-2 Inv-loop μ-loop
 slice-write-image-2 c = search needs
 
-add-set-bit : tie.Need-add-set-bit Inv-loop μ-loop
-add-set-bit c = search needs
+add-bits-at : tie.Need-add-bits-at Inv-loop μ-loop
+add-bits-at c = search needs
+
+bits-at-requires : tie.Need-bits-at-requires Inv-loop μ-loop
+bits-at-requires c κs = search needs
 
 mul-set-bit : tie.Need-mul-set-bit Inv-loop μ-loop
 mul-set-bit c = search needs
 
-add-set-bit-2 : tie.Need-add-set-bit-2 Inv-loop μ-loop
-add-set-bit-2 c = search needs
-
-mul-set-bit-2 : tie.Need-mul-set-bit-2 Inv-loop μ-loop
-mul-set-bit-2 c = search needs
-
-add-set-bit-3 : tie.Need-add-set-bit-3 Inv-loop μ-loop
-add-set-bit-3 c = search needs
+add-set-bit : tie.Need-add-set-bit Inv-loop μ-loop
+add-set-bit c = search needs
 
 set-bit-requires : tie.Need-set-bit-requires Inv-loop μ-loop
 set-bit-requires c κs =
-    let at = c .before .before .before in
+    let placed = c .before .before in
+    let at = placed .before .before in
     let start = at .before .before .before in
     let a = start .args in
-    let are = good-parents (a .ps .now) (start .pre .0) (start .pre .1 .1 .0) in
-    omega (arith, length-set (at .loop .image) (c .before .byte-place3 .result) (at .loop .byte), at .loop .inv .kept, start .pre .1 .1 .1 .1 .0)
+    let kept = length-set (at .loop .image) (placed .byte-place3 .result) (at .loop .byte) ∙ at .loop .inv .kept in
+    subst (λ size. 8 * c .bits-at .result + length (a .ps .now) % 4000 < 8 * size) (sym kept)
+    (last-bit-inside (a .zeros) (length (a .ps .now)) (c .bits-at .result) (length (a .image .now)) (c .bits-at .ensures) (start .pre .1 .1 .1 .1 .0))
 
 same-length : tie.Need-same-length Inv-loop μ-loop
 same-length c =
-    let at = c .before .before .before .before .before .before in
-    let start = at .before .before .before in
-    let a = start .args in
-    let are = good-parents (a .ps .now) (start .pre .0) (start .pre .1 .1 .0) in
-    let put = set (at .loop .image) (c .before .before .before .before .byte-place3 .result) (at .loop .byte) in
-    ap length (c .before .before .set-bit .ensures) ∙ lit-length put (bitPlace (a .zeros) (length (a .ps .now)))
-    ∙ length-set (at .loop .image) (c .before .before .before .before .byte-place3 .result) (at .loop .byte) ∙ at .loop .inv .kept
+    let bits = c .before .before .before in
+    let placed = bits .before .before in
+    let at = placed .before .before in
+    let a = at .before .before .before .args in
+    let put = set (at .loop .image) (placed .byte-place3 .result) (at .loop .byte) in
+    ap length (c .before .before .set-bit .ensures) ∙ lit-length put (8 * bits .bits-at .result + length (a .ps .now) % 4000)
+    ∙ length-set (at .loop .image) (placed .byte-place3 .result) (at .loop .byte) ∙ at .loop .inv .kept
 
 returns : tie.Need-returns Inv-loop μ-loop
 returns c =
-    let at = c .before .before .before .before .before .before in
+    let bits = c .before .before .before in
+    let placed = bits .before .before in
+    let at = placed .before .before in
     let start = at .before .before .before in
     let a = start .args in
     let are = good-parents (a .ps .now) (start .pre .0) (start .pre .1 .1 .0) in
     gapping-last (a .ps .now) (a .image .now) (at .loop .image) (a .zeros) (at .loop .c) (at .loop .byte) (at .loop .i) are (at .loop .inv) (start .pre .1 .1 .1 .1 .0)
-    (c .before .before .before .before .before .loop-test .left) _ _
-    (ap (λ p. set (at .loop .image) p (at .loop .byte)) (c .before .before .before .before .byte-place3 .ensures)) (c .before .before .set-bit .ensures)
+    (placed .before .loop-test .left) _ _
+    (ap (λ p. set (at .loop .image) p (at .loop .byte)) (placed .byte-place3 .ensures))
+    (c .before .before .set-bit .ensures ∙ ap (λ p. lit (set (at .loop .image) (placed .byte-place3 .result) (at .loop .byte)) (8 * p + length (a .ps .now) % 4000)) (bits .bits-at .ensures))
 
 pub write-r0-spec : {M : Type 1} → statement M
 write-r0-spec =
@@ -185,11 +187,10 @@ write-r0-spec =
     loop-again
     byte-place-requires-3
     slice-write-image-2
-    add-set-bit
+    add-bits-at
+    bits-at-requires
     mul-set-bit
-    add-set-bit-2
-    mul-set-bit-2
-    add-set-bit-3
+    add-set-bit
     set-bit-requires
     same-length
     returns)

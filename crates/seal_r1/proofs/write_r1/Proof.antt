@@ -9,10 +9,10 @@ use Rattle.seal_r1.proofs.write_r1.Statement.{statement}
 use Rattle.seal_r1.proofs.write_r1.Tie as tie
 
 abbrev Inv-loop : tie.InvT-loop
-Inv-loop image₀ ps first k₀ b₀ image k b = Ending ps image₀ image first b k
+Inv-loop image₀ ps samples k₀ b₀ image k b = Ending ps image₀ image samples b k
 
 abbrev μ-loop : tie.MeasureT-loop
-μ-loop image₀ ps first k₀ b₀ image k b = length ps - 8 * b
+μ-loop image₀ ps samples k₀ b₀ image k b = length ps - 8 * b
 
 loop-holds : tie.Need-loop-holds Inv-loop μ-loop
 loop-holds c =
@@ -35,9 +35,9 @@ write-r1-byte-requires c κs =
     let a = start .args in
     let are = good-parents (a .ps .now) (start .pre .0) (start .pre .1 .1 .0) in
     let within =
-    ending-within (a .ps .now) (a .image .now) (at .loop .image) (a .first) (at .loop .b) (at .loop .k) are (at .loop .inv) _ (c .before .r1-byte .ensures)
+    ending-within (a .ps .now) (a .image .now) (at .loop .image) (a .samples) (at .loop .b) (at .loop .k) are (at .loop .inv) _ (c .before .r1-byte .ensures)
     (c .before .before .loop-test .taken) in
-    let few = ending-few (a .ps .now) (a .image .now) (at .loop .image) (a .first) (at .loop .b) (at .loop .k) are (at .loop .inv) (omega arith) in
+    let few = ending-few (a .ps .now) (a .image .now) (at .loop .image) (a .samples) (at .loop .b) (at .loop .k) are (at .loop .inv) (omega arith) in
     search needs
 
 add-b : tie.Need-add-b Inv-loop μ-loop
@@ -52,7 +52,7 @@ loop-again c =
     let start = at .before .before .before in
     let a = start .args in
     let are = good-parents (a .ps .now) (start .pre .0) (start .pre .1 .1 .0) in
-    ending-next (a .ps .now) (a .image .now) (at .loop .image) (a .first) (at .loop .b) (at .loop .k) are (at .loop .inv) _ (c .before .before .before .before .r1-byte .ensures)
+    ending-next (a .ps .now) (a .image .now) (at .loop .image) (a .samples) (at .loop .b) (at .loop .k) are (at .loop .inv) _ (c .before .before .before .before .r1-byte .ensures)
     (c .before .before .before .before .before .loop-test .taken) (start .pre .1 .0) (start .pre .1 .1 .1 .1 .0) (start .pre .1 .1 .1 .1 .1 .0) _ _
     (c .before .before .write-r1-byte .ensures .1) (c .before .before .write-r1-byte .ensures .0)
 
@@ -65,7 +65,7 @@ returns c =
     let start = at .before .before .before in
     let a = start .args in
     let are = good-parents (a .ps .now) (start .pre .0) (start .pre .1 .1 .0) in
-    ending-last (a .ps .now) (a .image .now) (at .loop .image) (a .first) (at .loop .b) (at .loop .k) are (at .loop .inv) (c .loop-test .left)
+    ending-last (a .ps .now) (a .image .now) (at .loop .image) (a .samples) (at .loop .b) (at .loop .k) are (at .loop .inv) (c .loop-test .left)
 
 pub write-r1-spec : {M : Type 1} → statement M
 write-r1-spec =

@@ -25,28 +25,27 @@ loop-holds c =
     let l = length-stringIn (a .b .now) 1 0 (a .n) in
     (omega arith, up-first (stringIn (a .b .now) 1 0 (a .n)) 0 (a .p) (a .out .now) (omega arith) (omega arith))
 
-add-spread-block : tie.Need-add-spread-block Inv-loop μ-loop
-add-spread-block c = omega arith
+add-bits-at : tie.Need-add-bits-at Inv-loop μ-loop
+add-bits-at c = omega arith
+
+bits-at-requires : tie.Need-bits-at-requires Inv-loop μ-loop
+bits-at-requires c κs = omega arith
 
 mul-spread-block : tie.Need-mul-spread-block Inv-loop μ-loop
 mul-spread-block c = omega arith
 
-add-spread-block-2 : tie.Need-add-spread-block-2 Inv-loop μ-loop
-add-spread-block-2 c = omega arith
-
-mul-spread-block-2 : tie.Need-mul-spread-block-2 Inv-loop μ-loop
-mul-spread-block-2 c = omega arith
-
 spread-block-requires : tie.Need-spread-block-requires Inv-loop μ-loop
 spread-block-requires c κs =
-    let a = c .before .before .before .before .before .args in
-    let o = c .before .before .loop in
+    let bits = c .before in
+    let at = bits .before .before in
+    let a = at .before .before .before .args in
+    let o = at .loop in
     let b = a .b .now in
     let j = o .j in
     let all = stringIn b 1 0 (a .n) in
-    let new = bitsFrom b (8 * (512 * (1 + j) + 4)) 4000 in
+    let new = bitsFrom b (8 * bits .bits-at .result) 4000 in
     let l = length-stringIn b 1 0 (a .n) in
-    let e = block-piece b 1 (a .n) j 4000 (omega arith) (omega arith) in
+    let e = block-piece b 1 (a .n) j 4000 (bits .bits-at .result) (bits .bits-at .ensures) (omega arith) (omega arith) in
     let t = 4000 * (j + 1) in (
       omega arith,
       (
@@ -66,42 +65,44 @@ loop-less c = omega arith
 
 loop-again : tie.Need-loop-again Inv-loop μ-loop
 loop-again c =
-    let a = c .before .before .before .before .before .before .before .before .args in
     let f = c .before .before .spread-block in
-    let o = c .before .before .before .before .before .loop in
+    let bits = c .before .before .before .before in
+    let at = bits .before .before in
+    let a = at .before .before .before .args in
+    let o = at .loop in
     let b = a .b .now in
     let j = o .j in
     let all = stringIn b 1 0 (a .n) in
-    let new = bitsFrom b (8 * (512 * (1 + j) + 4)) 4000 in
-    let l = length-stringIn b 1 0 (a .n) in (
+    let new = bitsFrom b (8 * bits .bits-at .result) 4000 in
+    let l = length-stringIn b 1 0 (a .n) in
+    let e = block-piece b 1 (a .n) j 4000 (bits .bits-at .result) (bits .bits-at .ensures) (omega arith) (omega arith) in (
       omega arith,
-      up-next all new 0 (a .p) (a .out .now) (4000 * j) 4000 (4000 * (j + 1)) (omega arith) (block-piece b 1 (a .n) j 4000 (omega arith) (omega arith)) (omega arith) (o .out)
-          (o .from) (o .inv .1) _ _ (f .kept .1 .1 .1 .1 .1 .0) (spread-at new (4000 * j) _ _ _ _ (f .ensures)),
+      up-next all new 0 (a .p) (a .out .now) (4000 * j) 4000 (4000 * (j + 1)) (omega arith) e (omega arith) (o .out) (o .from)
+          (o .inv .1) _ _ (f .kept .1 .1 .1 .1 .1 .0) (spread-at new (4000 * j) _ _ _ _ (f .ensures)),
     )
 
-add-spread-block-3 : tie.Need-add-spread-block-3 Inv-loop μ-loop
-add-spread-block-3 c = omega arith
+add-bits-at-2 : tie.Need-add-bits-at-2 Inv-loop μ-loop
+add-bits-at-2 c = omega arith
 
-mul-spread-block-3 : tie.Need-mul-spread-block-3 Inv-loop μ-loop
-mul-spread-block-3 c = omega arith
+bits-at-requires-2 : tie.Need-bits-at-requires-2 Inv-loop μ-loop
+bits-at-requires-2 c κs = omega arith
 
-add-spread-block-4 : tie.Need-add-spread-block-4 Inv-loop μ-loop
-add-spread-block-4 c = omega arith
-
-mul-spread-block-4 : tie.Need-mul-spread-block-4 Inv-loop μ-loop
-mul-spread-block-4 c = omega arith
+mul-spread-block-2 : tie.Need-mul-spread-block-2 Inv-loop μ-loop
+mul-spread-block-2 c = omega arith
 
 spread-block-requires-2 : tie.Need-spread-block-requires-2 Inv-loop μ-loop
 spread-block-requires-2 c κs =
-    let a = c .before .before .before .before .before .args in
-    let o = c .before .before .loop in
+    let bits = c .before in
+    let at = bits .before .before in
+    let a = at .before .before .before .args in
+    let o = at .loop in
     let b = a .b .now in
     let j = o .j in
     let r = a .n % 4000 in
     let all = stringIn b 1 0 (a .n) in
-    let new = bitsFrom b (8 * (512 * (1 + j) + 4)) r in
+    let new = bitsFrom b (8 * bits .bits-at2 .result) r in
     let l = length-stringIn b 1 0 (a .n) in
-    let e = block-piece b 1 (a .n) j r (omega arith) (omega arith) in (
+    let e = block-piece b 1 (a .n) j r (bits .bits-at2 .result) (bits .bits-at2 .ensures) (omega arith) (omega arith) in (
       omega arith,
       (
         omega arith,
@@ -113,21 +114,24 @@ spread-block-requires-2 c κs =
     )
 
 same-length : tie.Need-same-length Inv-loop μ-loop
-same-length c = c .before .before .spread-block2 .kept .1 .1 .1 .1 .1 .0 ∙ c .before .before .before .before .before .loop .inv .1 .size
+same-length c = c .before .before .spread-block2 .kept .1 .1 .1 .1 .1 .0 ∙ c .before .before .before .before .before .before .loop .inv .1 .size
 
 returns : tie.Need-returns Inv-loop μ-loop
 returns c =
-    let a = c .before .before .before .before .before .before .before .before .args in
     let f = c .before .before .spread-block2 in
-    let o = c .before .before .before .before .before .loop in
+    let bits = c .before .before .before .before in
+    let at = bits .before .before in
+    let a = at .before .before .before .args in
+    let o = at .loop in
     let b = a .b .now in
     let j = o .j in
     let r = a .n % 4000 in
     let all = stringIn b 1 0 (a .n) in
-    let new = bitsFrom b (8 * (512 * (1 + j) + 4)) r in
+    let new = bitsFrom b (8 * bits .bits-at2 .result) r in
     let l = length-stringIn b 1 0 (a .n) in
+    let e = block-piece b 1 (a .n) j r (bits .bits-at2 .result) (bits .bits-at2 .ensures) (omega arith) (omega arith) in
     up-done all 0 (a .p) (a .out .now) (a .n) _ _ (omega arith)
-    (up-next all new 0 (a .p) (a .out .now) (4000 * j) r (a .n) (omega arith) (block-piece b 1 (a .n) j r (omega arith) (omega arith)) (omega arith) (o .out) (o .from)
+    (up-next all new 0 (a .p) (a .out .now) (4000 * j) r (a .n) (omega arith) e (omega arith) (o .out) (o .from)
     (o .inv .1) _ _ (f .kept .1 .1 .1 .1 .1 .0) (spread-at new (4000 * j) _ _ _ _ (f .ensures))) .made
     ∙ ap (λ n. spread all (drop (a .p) (a .out .now)) ++ drop n (a .out .now)) (let e : 0 + length all ≡ a .n = omega arith in e)
 
@@ -138,18 +142,16 @@ spread-string-spec =
     Inv-loop
     μ-loop
     loop-holds
-    add-spread-block
+    add-bits-at
+    bits-at-requires
     mul-spread-block
-    add-spread-block-2
-    mul-spread-block-2
     spread-block-requires
     add-j
     loop-less
     loop-again
-    add-spread-block-3
-    mul-spread-block-3
-    add-spread-block-4
-    mul-spread-block-4
+    add-bits-at-2
+    bits-at-requires-2
+    mul-spread-block-2
     spread-block-requires-2
     same-length
     returns)
