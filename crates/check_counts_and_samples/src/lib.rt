@@ -9,6 +9,7 @@ ghost use Rattle.theory.specs.Layout.{samplePlace, wordAt};
 ghost use Rattle.theory.specs.Stages.{blocksOfSamples, Sampled};
 ghost use Rattle.image_string.specs.Decides.{Decides};
 ghost use Rattle.check_sample_table.specs.Table.{CountsBefore};
+ghost use Rattle.check_sample.specs.Words.{bitsIn};
 ghost use Rattle.check_counts_and_samples.specs.Pieces.{PieceSampled};
 ghost use Rattle.meaning.specs.Image.{stringBlocks, stringIn};
 ghost use Rattle.image_string.specs.Parts.{onesTo};
@@ -43,15 +44,15 @@ fn each_sampled(
     table: &[u32; 63],
 ) -> bool
     requires { ⌜ piece .at ≤ 1024 * mostBlock ⌝ }
-    requires { ⌜ piece .bits ≤ 4000 ⌝ }
+    requires { ⌜ bitsIn piece ≤ 4000 ⌝ }
     requires { ⌜ piece .first ≤ 65537 ⌝ }
     requires { ⌜ k ≤ 65536 ⌝ }
     requires { ⌜ samples ≤ mostBlock ⌝ }
-    requires { ⌜ end ≡ k + ones (bitsFrom (now b) (8 * piece .at) (piece .bits)) ⌝ }
+    requires { ⌜ end ≡ k + ones (bitsFrom (now b) (8 * piece .at) (bitsIn piece)) ⌝ }
     requires { ⌜ piece .at + 504 ≤ length (now b) ⌝ }
     requires { ⌜ 512 * (samples + blocksOfSamples end) ≤ length (now b) ⌝ }
     requires { ⌜ CountsBefore (now b) (piece .at) (now table) ⌝ }
-    ensures { λ r. ⌜ Decides r (PieceSampled (now (b .entry)) samples (piece .at) (piece .bits) (piece .first) k) ⌝ }
+    ensures { λ r. ⌜ Decides r (PieceSampled (now (b .entry)) samples (piece .at) (bitsIn piece) (piece .first) k) ⌝ }
 {
     let mut s = (k + 63) / 64;
     let mut p = sample_at(samples, s);
@@ -70,13 +71,13 @@ fn each_sampled(
 // counted for both.
 fn full_piece_right(b: &[u8], samples: usize, piece: Piece, k: usize, end: usize) -> bool
     requires { ⌜ piece .at ≤ 1024 * mostBlock ⌝ }
-    requires { ⌜ piece .bits ≡ 4000 ⌝ }
+    requires { ⌜ bitsIn piece ≡ 4000 ⌝ }
     requires { ⌜ piece .first ≤ 65537 ⌝ }
     requires { ⌜ k ≤ 65536 ⌝ }
     requires { ⌜ samples ≤ mostBlock ⌝ }
     requires { ⌜ piece .at + 504 ≤ length (now b) ⌝ }
     requires { ⌜ 512 * (samples + blocksOfSamples end) ≤ length (now b) ⌝ }
-    ensures { λ r. ⌜ Decides r ((end ≡ k + ones (bitsFrom (now (b .entry)) (8 * piece .at) (piece .bits))) × PieceSampled (now (b .entry)) samples (piece .at) (piece .bits) (piece .first) k) ⌝ }
+    ensures { λ r. ⌜ Decides r ((end ≡ k + ones (bitsFrom (now (b .entry)) (8 * piece .at) (bitsIn piece))) × PieceSampled (now (b .entry)) samples (piece .at) (bitsIn piece) (piece .first) k) ⌝ }
 {
     let at = piece.at;
     let mut table: [u32; 63] = [0; 63];
@@ -103,8 +104,8 @@ fn full_block_right(b: &[u8], samples: usize, bits_block: usize, j: usize, end: 
     let at = 512 * (bits_block + j);
     let piece = Piece {
         at: at + 4,
-        bits: 4000,
         first: 4000 * j + 1,
+        last: 4000 * j + 4000,
     };
     full_piece_right(b, samples, piece, word(b, at) as usize, end)
 }
@@ -144,14 +145,14 @@ pub fn full_blocks_right(b: &[u8], samples: usize, m: u32, bits_block: usize, n:
 // branch waits for a count.
 fn piece_sampled(b: &[u8], samples: usize, piece: Piece, k: usize, end: usize) -> bool
     requires { ⌜ piece .at ≤ 1024 * mostBlock ⌝ }
-    requires { ⌜ piece .bits ≤ 4000 ⌝ }
+    requires { ⌜ bitsIn piece ≤ 4000 ⌝ }
     requires { ⌜ piece .first ≤ 65537 ⌝ }
     requires { ⌜ k ≤ 65536 ⌝ }
     requires { ⌜ samples ≤ mostBlock ⌝ }
-    requires { ⌜ end ≡ k + ones (bitsFrom (now b) (8 * piece .at) (piece .bits)) ⌝ }
+    requires { ⌜ end ≡ k + ones (bitsFrom (now b) (8 * piece .at) (bitsIn piece)) ⌝ }
     requires { ⌜ piece .at + 504 ≤ length (now b) ⌝ }
     requires { ⌜ 512 * (samples + blocksOfSamples end) ≤ length (now b) ⌝ }
-    ensures { λ r. ⌜ Decides r (PieceSampled (now (b .entry)) samples (piece .at) (piece .bits) (piece .first) k) ⌝ }
+    ensures { λ r. ⌜ Decides r (PieceSampled (now (b .entry)) samples (piece .at) (bitsIn piece) (piece .first) k) ⌝ }
 {
     let mut table: [u32; 63] = [0; 63];
     count_words(b, piece.at, &mut table);
@@ -182,8 +183,8 @@ fn block_sampled(
     let at = 512 * (bits_block + j);
     let piece = Piece {
         at: at + 4,
-        bits: n,
         first: 4000 * j + 1,
+        last: 4000 * j + n,
     };
     piece_sampled(b, samples, piece, word(b, at) as usize, end)
 }

@@ -1,11 +1,16 @@
 -- The words of samples: where each is, the one that it names, and zeros after the last.
 use mathlib.Core.Path.{_≡_}
 use mathlib.Core.List.{List}
-use Prim.Native.Nat.{ℕ, _+_, _*_, _/_, _≤_, _<_}
+use Prim.Native.Nat.{ℕ, _+_, _-_, _*_, _/_, _≤_, _<_}
 use Rattle.meaning.specs.Strings.{I, ones}
 use Rattle.meaning.specs.Bytes.{bitAt, bitsFrom}
 use Rattle.theory.specs.Layout.{sampleIn}
 use Rattle.theory.specs.Stages.{blocksOfSamples}
+use Rattle.check_sample.specs.declared.Piece.{Piece}
+
+-- how many bits a piece has
+abbrev pub bitsIn : Piece → ℕ
+bitsIn piece = piece .last + 1 - piece .first
 
 -- of n bits from byte `at` on, the first of which has position `first` in their string: the position
 -- of one number `nth` of them, from 1

@@ -8,42 +8,42 @@ ghost use Rattle.theory.specs.Layout.{wordAt};
 ghost use Rattle.theory.specs.Stages.{blocksOfSamples};
 ghost use Rattle.image_string.specs.Decides.{Decides};
 ghost use Rattle.check_sample_table.specs.Table.{CountsBefore};
-ghost use Rattle.check_sample.specs.Words.{NamesOne, RestZero};
+ghost use Rattle.check_sample.specs.Words.{bitsIn, NamesOne, RestZero};
 use bits_count::ones_ending;
 use image_string::all_zero;
 use image_words::word;
 
-// Bits of a string in an image: so many from byte `at` on, the first of which has position `first`
-// in the string, counted from 1.
+// Bits of a string in an image, from byte `at` on: those from position `first` to position `last` of
+// the string, counted from 1.
 pub struct Piece {
     pub at: usize,
-    pub bits: usize,
     pub first: usize,
+    pub last: usize,
 }
 
 // Does the sample at byte p name one number `nth` of the piece, counted from 1?
 pub fn sample_right(b: &[u8], p: usize, piece: Piece, nth: usize, table: &[u32; 63]) -> bool
     requires { ⌜ piece .at ≤ 1024 * mostBlock ⌝ }
-    requires { ⌜ piece .bits ≤ 4000 ⌝ }
+    requires { ⌜ bitsIn piece ≤ 4000 ⌝ }
     requires { ⌜ piece .first ≤ 65537 ⌝ }
     requires { ⌜ 1 ≤ nth ⌝ }
-    requires { ⌜ nth ≤ ones (bitsFrom (now b) (8 * piece .at) (piece .bits)) ⌝ }
+    requires { ⌜ nth ≤ ones (bitsFrom (now b) (8 * piece .at) (bitsIn piece)) ⌝ }
     requires { ⌜ p + 4 ≤ length (now b) ⌝ }
     requires { ⌜ piece .at + 504 ≤ length (now b) ⌝ }
     requires { ⌜ CountsBefore (now b) (piece .at) (now table) ⌝ }
-    ensures { λ r. ⌜ Decides r (NamesOne (now (b .entry)) (piece .at) (piece .bits) (piece .first) nth (wordAt (now (b .entry)) p)) ⌝ }
+    ensures { λ r. ⌜ Decides r (NamesOne (now (b .entry)) (piece .at) (bitsIn piece) (piece .first) nth (wordAt (now (b .entry)) p)) ⌝ }
 {
     let at = piece.at;
-    let n = piece.bits;
     let first = piece.first;
+    let last = piece.last;
     let place = word(b, p) as usize;
     if place < first {
         return false;
     }
-    let o = place - first;
-    if n <= o {
+    if last < place {
         return false;
     }
+    let o = place - first;
     let upto = ones_ending(b, at + 8 * (o / 64), o % 64) as usize;
     // no one is there
     if upto == 0 {

@@ -1,10 +1,13 @@
 -- `check_counts_and_samples::block_sampled` meets its contract.
 use borrow.Author.Needs.{needs}
-use mathlib.Core.Path.{_∙_}
-use Prim.Native.Nat.{_+_, _*_}
+use mathlib.Core.Path.{_≡_, ap, subst, _∙_}
+use Prim.Native.Nat.{_+_, _-_, _*_}
 use native.Mathlib.Omega.{arith}
+use Rattle.meaning.specs.Strings.{ones}
+use Rattle.meaning.specs.Bytes.{bitsFrom}
 use Rattle.check_counts_and_samples.specs.Pieces.{PieceSampled}
 use Rattle.check_counts_and_samples.specs.Samples.{SampledWithin}
+use Rattle.image_string.specs.Decides.{Decides}
 use Rattle.image_string.proofs.Saying.{decides-same}
 use Rattle.image_string.proofs.Ones.{onesTo-le, onesTo-block}
 use Rattle.check_counts_and_samples.proofs.Sampling.{sampled-block, block-sampled}
@@ -26,6 +29,12 @@ mul-t10 c = search needs
 add-t11 : tie.Need-add-t11
 add-t11 c = search needs
 
+mul-t12 : tie.Need-mul-t12
+mul-t12 c = search needs
+
+add-t13 : tie.Need-add-t13
+add-t13 c = search needs
+
 word-requires : tie.Need-word-requires
 word-requires c κs = omega arith
 
@@ -38,6 +47,8 @@ piece-sampled-requires c κs =
     let b = a .b .now in
     let most = onesTo-le b (a .bits-block) (4000 * a .j) in
     let whole = onesTo-block b (a .bits-block) (a .j) (a .n) (omega arith) in
+    let n : 4000 * a .j + a .n + 1 - (4000 * a .j + 1) ≡ a .n = omega arith in
+    let same = ap (λ m. ones (bitsFrom b (8 * (512 * (a .bits-block + a .j) + 4)) m)) n in
     (omega arith, (omega arith, (omega arith, (omega arith, (omega arith, (omega arith, (omega arith, omega arith)))))))
 
 returns : tie.Need-returns
@@ -46,9 +57,12 @@ returns c =
     let b = a .b .now in
     let k = c .before .word .result in
     let e = c .before .word .ensures ∙ c .before .before .before .pre .1 .1 .1 .1 .1 .1 .1 in
-    decides-same (c .piece-sampled .result) (PieceSampled b (a .samples) (512 * (a .bits-block + a .j) + 4) (a .n) (4000 * a .j + 1) k)
+    let at = 512 * (a .bits-block + a .j) + 4 in
+    let n : 4000 * a .j + a .n + 1 - (4000 * a .j + 1) ≡ a .n = omega arith in
+    let sampled = subst (λ m. Decides (c .piece-sampled .result) (PieceSampled b (a .samples) at m (4000 * a .j + 1) k)) n (c .piece-sampled .ensures) in
+    decides-same (c .piece-sampled .result) (PieceSampled b (a .samples) at (a .n) (4000 * a .j + 1) k)
     (SampledWithin b (a .samples) (a .bits-block) (4000 * a .j) (4000 * a .j + a .n))
-    (sampled-block b (a .samples) (a .bits-block) (a .j) (a .n) k (omega arith) e) (block-sampled b (a .samples) (a .bits-block) (a .j) (a .n) k (omega arith) e) (c .piece-sampled .ensures)
+    (sampled-block b (a .samples) (a .bits-block) (a .j) (a .n) k (omega arith) e) (block-sampled b (a .samples) (a .bits-block) (a .j) (a .n) k (omega arith) e) sampled
 
 pub block-sampled-spec : {M : Type 1} → statement M
 block-sampled-spec =
@@ -59,6 +73,8 @@ block-sampled-spec =
     add-piece-sampled
     mul-t10
     add-t11
+    mul-t12
+    add-t13
     word-requires
     cast-piece-sampled
     piece-sampled-requires

@@ -6,14 +6,14 @@ use borrow.Author.Count.{below-more}
 use Rattle.theory.specs.Layout.{samplePlace, wordAt}
 use Rattle.bits_count.proofs.Runs.{bits-ones-le}
 use Rattle.image_string.proofs.Saying.{decides-held, decides-missed}
-use Rattle.check_sample.specs.Words.{NamesOne}
+use Rattle.check_sample.specs.Words.{bitsIn, NamesOne}
 use Rattle.check_counts_and_samples.proofs.Numbering.{NumberSampled, number-named, piece-named, none-before, numbers-piece}
 use Rattle.check_counts_and_samples.proofs.each_sampled.Statement.{statement}
 use Rattle.check_counts_and_samples.proofs.each_sampled.Tie as tie
 
 abbrev Inv-loop : tie.InvT-loop
 Inv-loop b samples piece k end table s₀ p₀ s p =
-    (k ≤ 64 * s) × (64 * s < end + 64) × (p ≡ samplePlace samples s) × (end ≤ k + 4000) × ((q : ℕ) → q < s → NumberSampled b samples (piece .at) (piece .bits) (piece .first) k q)
+    (k ≤ 64 * s) × (64 * s < end + 64) × (p ≡ samplePlace samples s) × (end ≤ k + 4000) × ((q : ℕ) → q < s → NumberSampled b samples (piece .at) (bitsIn piece) (piece .first) k q)
 
 abbrev μ-loop : tie.MeasureT-loop
 μ-loop b samples piece k end table s₀ p₀ s p = end - 64 * s
@@ -27,8 +27,8 @@ sample-at-requires c κs = omega arith
 loop-holds : tie.Need-loop-holds Inv-loop μ-loop
 loop-holds c =
     let a = c .before .before .args in
-    let most = bits-ones-le (a .b .now) (8 * a .piece .at) (a .piece .bits) in
-    (omega arith, omega arith, c .sample-at .ensures, omega arith, none-before (a .b .now) (a .samples) (a .piece .at) (a .piece .bits) (a .piece .first) (a .k))
+    let most = bits-ones-le (a .b .now) (8 * a .piece .at) (bitsIn (a .piece)) in
+    (omega arith, omega arith, c .sample-at .ensures, omega arith, none-before (a .b .now) (a .samples) (a .piece .at) (bitsIn (a .piece)) (a .piece .first) (a .k))
 
 mul-loop : tie.Need-mul-loop Inv-loop μ-loop
 mul-loop c = omega arith
@@ -51,9 +51,9 @@ returns : tie.Need-returns Inv-loop μ-loop
 returns c = λ all.
     let a = c .before .before .before .before .before .before .args in
     let l = c .before .before .before .loop in
-    decides-missed (c .before .sample-right .result) (NamesOne (a .b .now) (a .piece .at) (a .piece .bits) (a .piece .first) (64 * l .s + 1 - a .k) (wordAt (a .b .now) (l .p)))
+    decides-missed (c .before .sample-right .result) (NamesOne (a .b .now) (a .piece .at) (bitsIn (a .piece)) (a .piece .first) (64 * l .s + 1 - a .k) (wordAt (a .b .now) (l .p)))
     (c .before .sample-right .ensures) (c .if1 .taken)
-    (λ p h e d. ap (wordAt (a .b .now)) (l .inv .2) ∙ piece-named (a .b .now) (a .samples) (a .piece .at) (a .piece .bits) (a .piece .first) (a .k) (l .s) (l .inv .0) all p h e d)
+    (λ p h e d. ap (wordAt (a .b .now)) (l .inv .2) ∙ piece-named (a .b .now) (a .samples) (a .piece .at) (bitsIn (a .piece)) (a .piece .first) (a .k) (l .s) (l .inv .0) all p h e d)
 
 next-sample-requires : tie.Need-next-sample-requires Inv-loop μ-loop
 next-sample-requires c κs = omega arith
@@ -70,10 +70,10 @@ loop-again c =
     let l = c .before .before .before .before .loop in
     let this =
     decides-held (c .before .before .sample-right .result)
-    (NamesOne (a .b .now) (a .piece .at) (a .piece .bits) (a .piece .first) (64 * l .s + 1 - a .k) (wordAt (a .b .now) (l .p))) (c .before .before .sample-right .ensures)
+    (NamesOne (a .b .now) (a .piece .at) (bitsIn (a .piece)) (a .piece .first) (64 * l .s + 1 - a .k) (wordAt (a .b .now) (l .p))) (c .before .before .sample-right .ensures)
     (c .before .if1 .left) in
     let right =
-    number-named (a .b .now) (a .samples) (a .piece .at) (a .piece .bits) (a .piece .first) (a .k) (l .s) (l .inv .0)
+    number-named (a .b .now) (a .samples) (a .piece .at) (bitsIn (a .piece)) (a .piece .first) (a .k) (l .s) (l .inv .0)
     (λ p h e d. ap (wordAt (a .b .now)) (sym (l .inv .2)) ∙ this p h e d) in
     (omega arith, omega arith, c .next-sample .ensures (a .samples) (l .s) (l .inv .2), l .inv .3, below-more _ _ (l .inv .4) right)
 
@@ -82,7 +82,7 @@ returns-2 c =
     let s = c .before .before .before .before in
     let a = s .args in
     let l = c .before .loop in
-    numbers-piece (a .b .now) (a .samples) (a .piece .at) (a .piece .bits) (a .piece .first) (a .k) (l .s) (a .end) (s .pre .1 .1 .1 .1 .1 .0) (omega arith) (l .inv .4)
+    numbers-piece (a .b .now) (a .samples) (a .piece .at) (bitsIn (a .piece)) (a .piece .first) (a .k) (l .s) (a .end) (s .pre .1 .1 .1 .1 .1 .0) (omega arith) (l .inv .4)
 
 pub each-sampled-spec : {M : Type 1} → statement M
 each-sampled-spec =

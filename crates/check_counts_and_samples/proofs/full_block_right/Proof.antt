@@ -1,12 +1,13 @@
 -- `check_counts_and_samples::full_block_right` meets its contract.
 use borrow.Author.Needs.{needs}
-use mathlib.Core.Path.{_≡_, _∙_}
-use Prim.Native.Nat.{_+_, _*_}
+use mathlib.Core.Path.{_≡_, subst, _∙_}
+use Prim.Native.Nat.{_+_, _-_, _*_}
 use native.Mathlib.Omega.{arith}
 use Rattle.meaning.specs.Strings.{ones}
 use Rattle.meaning.specs.Bytes.{bitsFrom}
 use Rattle.check_counts_and_samples.specs.Pieces.{PieceSampled}
 use Rattle.check_counts_and_samples.specs.Samples.{BlockRight}
+use Rattle.image_string.specs.Decides.{Decides}
 use Rattle.image_string.proofs.Saying.{decides-same}
 use Rattle.image_string.proofs.Ones.{onesTo-le, onesTo-block}
 use Rattle.check_counts_and_samples.proofs.Sampling.{sampled-block, block-sampled}
@@ -28,6 +29,12 @@ mul-t9 c = search needs
 add-t10 : tie.Need-add-t10
 add-t10 c = search needs
 
+mul-t11 : tie.Need-mul-t11
+mul-t11 c = search needs
+
+add-t12 : tie.Need-add-t12
+add-t12 c = search needs
+
 word-requires : tie.Need-word-requires
 word-requires c κs = omega arith
 
@@ -48,10 +55,14 @@ returns c =
     let e = c .before .word .ensures ∙ c .before .before .before .pre .1 .1 .1 .1 .1 in
     let at = 512 * (a .bits-block + a .j) + 4 in
     let whole = onesTo-block b (a .bits-block) (a .j) 4000 (omega arith) in
+    let n : 4000 * a .j + 4000 + 1 - (4000 * a .j + 1) ≡ 4000 = omega arith in
+    let right =
+    subst (λ m. Decides (c .full-piece-right .result) ((a .end ≡ k + ones (bitsFrom b (8 * at) m)) × PieceSampled b (a .samples) at m (4000 * a .j + 1) k)) n
+    (c .full-piece-right .ensures) in
     decides-same (c .full-piece-right .result) ((a .end ≡ k + ones (bitsFrom b (8 * at) 4000)) × PieceSampled b (a .samples) at 4000 (4000 * a .j + 1) k)
     (BlockRight b (a .samples) (a .bits-block) (a .j) (a .end))
     (λ s. (omega (arith, s .0), sampled-block b (a .samples) (a .bits-block) (a .j) 4000 k (omega arith) e (s .1)))
-    (λ s. (omega (arith, s .0), block-sampled b (a .samples) (a .bits-block) (a .j) 4000 k (omega arith) e (s .1))) (c .full-piece-right .ensures)
+    (λ s. (omega (arith, s .0), block-sampled b (a .samples) (a .bits-block) (a .j) 4000 k (omega arith) e (s .1))) right
 
 pub full-block-right-spec : {M : Type 1} → statement M
 full-block-right-spec =
@@ -62,6 +73,8 @@ full-block-right-spec =
     add-full-piece-right
     mul-t9
     add-t10
+    mul-t11
+    add-t12
     word-requires
     cast-full-piece-right
     full-piece-right-requires

@@ -9,6 +9,7 @@ use Rattle.meaning.specs.Bytes.{bitsFrom}
 use Rattle.bits_count.proofs.Runs.{bits-ones-le, ones-after}
 use Rattle.check_sample_table.specs.Table.{CountsBefore}
 use Rattle.check_sample_table.proofs.Adding.{counts-few, counts-before}
+use Rattle.check_sample.specs.Words.{bitsIn}
 use Rattle.check_counts_and_samples.specs.Pieces.{PieceSampled}
 use Rattle.image_string.proofs.Saying.{decides-same}
 use Rattle.check_counts_and_samples.proofs.full_piece_right.Statement.{statement}
@@ -50,7 +51,7 @@ ones-from-requires : tie.Need-ones-from-requires
 ones-from-requires c κs = search needs
 
 whole : (c : tie.After-ones-from) → let a = c .before .before .before .before .before .before .args in
-    getD (c .before .add-up .last .0) 62 0 + c .ones-from .result ≡ ones (bitsFrom (a .b .now) (8 * a .piece .at) (a .piece .bits))
+    getD (c .before .add-up .last .0) 62 0 + c .ones-from .result ≡ ones (bitsFrom (a .b .now) (8 * a .piece .at) (bitsIn (a .piece)))
 whole c =
     let s = c .before .before .before .before .before .before in
     let a = s .args in
@@ -63,7 +64,7 @@ cast-if1-2 c = search needs
 add-if1-2 : tie.Need-add-if1-2
 add-if1-2 c =
     let a = c .before .before .before .before .before .before .args in
-    omega (arith, few (c .before), whole c, bits-ones-le (a .b .now) (8 * a .piece .at) (a .piece .bits))
+    omega (arith, few (c .before), whole c, bits-ones-le (a .b .now) (8 * a .piece .at) (bitsIn (a .piece)))
 
 returns : tie.Need-returns
 returns c = λ p. c .if1 .taken (omega (arith, whole (c .before), p .0))
@@ -76,9 +77,9 @@ each-sampled-requires c κs =
 returns-2 : tie.Need-returns-2
 returns-2 c =
     let a = c .before .before .before .before .before .before .before .before .before .args in
-    let e : a .end ≡ a .k + ones (bitsFrom (a .b .now) (8 * a .piece .at) (a .piece .bits)) = omega (arith, whole (c .before .before .before), c .before .before .if1 .left) in
-    decides-same (c .each-sampled .result) (PieceSampled (a .b .now) (a .samples) (a .piece .at) (a .piece .bits) (a .piece .first) (a .k))
-    ((a .end ≡ a .k + ones (bitsFrom (a .b .now) (8 * a .piece .at) (a .piece .bits))) × PieceSampled (a .b .now) (a .samples) (a .piece .at) (a .piece .bits) (a .piece .first) (a .k))
+    let e : a .end ≡ a .k + ones (bitsFrom (a .b .now) (8 * a .piece .at) (bitsIn (a .piece))) = omega (arith, whole (c .before .before .before), c .before .before .if1 .left) in
+    decides-same (c .each-sampled .result) (PieceSampled (a .b .now) (a .samples) (a .piece .at) (bitsIn (a .piece)) (a .piece .first) (a .k))
+    ((a .end ≡ a .k + ones (bitsFrom (a .b .now) (8 * a .piece .at) (bitsIn (a .piece)))) × PieceSampled (a .b .now) (a .samples) (a .piece .at) (bitsIn (a .piece)) (a .piece .first) (a .k))
     (λ s. (e, s)) (λ p. p .1) (c .each-sampled .ensures)
 
 pub full-piece-right-spec : {M : Type 1} → statement M

@@ -8,7 +8,7 @@ use Rattle.theory.specs.Layout.{wordAt}
 use Rattle.bits_count.proofs.Runs.{bits-ones-le}
 use Rattle.bits_count.proofs.Words.{ending-le}
 use Rattle.image_string.proofs.Saying.{decides-is}
-use Rattle.check_sample.specs.Words.{NamesOne}
+use Rattle.check_sample.specs.Words.{bitsIn, NamesOne}
 use Rattle.check_sample.proofs.Naming.{named, named-inside, named-one, one-counted, counted-one}
 use Rattle.check_sample.proofs.sample_right.Statement.{statement}
 use Rattle.check_sample.proofs.sample_right.Tie as tie
@@ -25,7 +25,7 @@ returns c = λ all.
     let a = s .args in
     omega (
       arith,
-      named-inside (a .b .now) (a .piece .at) (a .piece .bits) (a .piece .first) (a .nth) (c .before .word .result) (omega arith) (omega arith)
+      named-inside (a .b .now) (a .piece .at) (bitsIn (a .piece)) (a .piece .first) (a .nth) (c .before .word .result) (omega arith) (omega arith)
           (λ p l e d. c .before .word .ensures ∙ all p l e d) .0,
     )
 
@@ -35,7 +35,7 @@ returns-2 c = λ all.
     let a = s .args in
     omega (
       arith,
-      named-inside (a .b .now) (a .piece .at) (a .piece .bits) (a .piece .first) (a .nth) (c .before .before .word .result) (omega arith) (omega arith)
+      named-inside (a .b .now) (a .piece .at) (bitsIn (a .piece)) (a .piece .first) (a .nth) (c .before .before .word .result) (omega arith) (omega arith)
           (λ p l e d. c .before .before .word .ensures ∙ all p l e d) .1,
     )
 
@@ -57,7 +57,7 @@ returns-3 c = λ all.
     let a = s .args in
     let w = c .before .before .before .before .word in
     let o = w .result - a .piece .first in
-    let one = named-one (a .b .now) (a .piece .at) (a .piece .bits) (a .piece .first) (a .nth) (w .result) (omega arith) (omega arith) (λ p l e d. w .ensures ∙ all p l e d) in
+    let one = named-one (a .b .now) (a .piece .at) (bitsIn (a .piece)) (a .piece .first) (a .nth) (w .result) (omega arith) (omega arith) (λ p l e d. w .ensures ∙ all p l e d) in
     omega (
       arith,
       one-counted (a .b .now) (a .piece .at) o (getD (a .table .now) (o / 64) 0) (c .before .ones-ending .result) (s .pre .1 .1 .1 .1 .1 .1 .1 (o / 64) (omega arith))
@@ -100,13 +100,13 @@ returns-4 c =
     let r = c .before .before .ones-ending .result in
     let t = getD (a .table .now) (o / 64) 0 in
     let counts = s .pre .1 .1 .1 .1 .1 .1 .1 (o / 64) (omega arith) in
-    decides-is (t + r) (a .nth) (NamesOne (a .b .now) (a .piece .at) (a .piece .bits) (a .piece .first) (a .nth) (wordAt (a .b .now) (a .p)))
+    decides-is (t + r) (a .nth) (NamesOne (a .b .now) (a .piece .at) (bitsIn (a .piece)) (a .piece .first) (a .nth) (wordAt (a .b .now) (a .p)))
     (λ h.
     let one = counted-one (a .b .now) (a .piece .at) o t r counts (c .before .before .ones-ending .ensures) (c .before .if3 .left) in
     let here = one-counted (a .b .now) (a .piece .at) o t r counts (c .before .before .ones-ending .ensures) one in
-    λ p l e d. sym (w .ensures) ∙ named (a .b .now) (a .piece .at) (a .piece .bits) (a .piece .first) (a .nth) (w .result) (omega arith) one (sym (here .1) ∙ h) p l e d)
+    λ p l e d. sym (w .ensures) ∙ named (a .b .now) (a .piece .at) (bitsIn (a .piece)) (a .piece .first) (a .nth) (w .result) (omega arith) one (sym (here .1) ∙ h) p l e d)
     (λ all.
-    let one = named-one (a .b .now) (a .piece .at) (a .piece .bits) (a .piece .first) (a .nth) (w .result) (omega arith) (omega arith) (λ p l e d. w .ensures ∙ all p l e d) in
+    let one = named-one (a .b .now) (a .piece .at) (bitsIn (a .piece)) (a .piece .first) (a .nth) (w .result) (omega arith) (omega arith) (λ p l e d. w .ensures ∙ all p l e d) in
     one-counted (a .b .now) (a .piece .at) o t r counts (c .before .before .ones-ending .ensures) (one .0) .1 ∙ one .1)
 
 pub sample-right-spec : {M : Type 1} → statement M
