@@ -58,7 +58,7 @@ static void store32(uint8_t *to, uint32_t x)
     memcpy(to, &x, sizeof x);
 }
 
-/* Eight bytes as they stand in memory: good for counting, and cheaper than their order. */
+/* Eight bytes as they are in memory: good for counting, and cheaper than their order. */
 static uint64_t load64(const uint8_t *from)
 {
     uint64_t x;
@@ -113,7 +113,7 @@ static bool all_zero(const uint8_t *from, const uint8_t *end)
     return any == 0;
 }
 
-/* The place, from 0, of one number `number` (from 1) in eight bytes of a string as they stand in memory; they have that many. */
+/* The place, from 0, of one number `number` (from 1) in eight bytes of a string as they are in memory; they have that many. */
 static uint32_t place_of_one(uint64_t raw, uint32_t number)
 {
     /* the places of the ones of a four-bit value, most significant first */

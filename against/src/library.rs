@@ -59,7 +59,7 @@ pub struct Library {
 
 impl Library {
     pub fn new() -> Library {
-        // SAFETY: the handler only reads what stands in `NOW_CALLED`, prints and ends.
+        // SAFETY: the handler only reads what is in `NOW_CALLED`, prints and ends.
         unsafe { signal(FAULT, report_fault) };
         Library { memory: [Pages::new(), Pages::new(), Pages::new()], calls: 0 }
     }
@@ -79,8 +79,8 @@ impl Library {
         returned
     }
 
-    /// Reads one byte behind an image, as a wrong library could; it shows that this ends the program.
-    pub fn read_behind(&mut self, image: Vec<u8>) -> u8 {
+    /// Reads one byte after an image, as a wrong library could; it shows that this ends the program.
+    pub fn read_after(&mut self, image: Vec<u8>) -> u8 {
         let call = Call::CheckImage { image };
         NOW_CALLED.set(&call);
         let Call::CheckImage { image } = &call else { unreachable!("just made") };

@@ -77,7 +77,7 @@ impl Pages {
         }
     }
 
-    /// Copies the list back as it now stands, and says whether the watched bytes next to it are as they were.
+    /// Copies the list back as it now is, and says whether the watched bytes next to it are as they were.
     pub fn take_back<T: Copy>(&mut self, list: &mut [T]) -> bool {
         assert!(size_of_val(list) == self.end - self.begin, "the list that was lent");
         // SAFETY: as above; the numbers lent are plain integers, for which all bytes are values.
@@ -92,8 +92,8 @@ impl Pages {
         // SAFETY: the usable memory is all readable and writable, and this object alone hands it out.
         let bytes = unsafe { std::slice::from_raw_parts_mut(self.usable, USABLE) };
         let (before, from_begin) = bytes.split_at_mut(self.begin);
-        let behind = &mut from_begin[self.end - self.begin..];
-        before.iter_mut().rev().take(WATCHED).chain(behind.iter_mut().take(WATCHED))
+        let after = &mut from_begin[self.end - self.begin..];
+        before.iter_mut().rev().take(WATCHED).chain(after.iter_mut().take(WATCHED))
     }
 }
 

@@ -34,7 +34,7 @@ pub fn place_of_bit(first_block: usize, index: usize) -> (usize, u8) {
     (block * BLOCK_BYTES + COUNT_BYTES + in_block / 8, 0x80 >> (in_block % 8))
 }
 
-/// Word `index` of the payload of a block, or of the blocks behind it.
+/// Word `index` of the payload of a block, or of the blocks after it.
 pub fn word_at(image: &mut [u8], first_block: usize, index: usize) -> &mut [u8; 4] {
     let block = first_block + index / PAYLOAD_WORDS;
     let begin = block * BLOCK_BYTES + 4 * (index % PAYLOAD_WORDS);

@@ -39,12 +39,12 @@ impl Random {
         self.draw() as u32
     }
 
-    /// What stands in lent bytes before a call.
+    /// What is in lent bytes before a call.
     pub fn bytes(&mut self, count: usize) -> Vec<u8> {
         (0..count).map(|_| self.draw() as u8).collect()
     }
 
-    /// What stands in lent numbers before a call.
+    /// What is in lent numbers before a call.
     pub fn words(&mut self, count: usize) -> Vec<u32> {
         (0..count).map(|_| self.word()).collect()
     }

@@ -77,7 +77,7 @@ fn even_degrees(n: usize, random: &mut Random) -> Vec<usize> {
     for last in (1..row.len()).rev() {
         row.swap(last, random.below(last + 1));
     }
-    // the right turn begins behind the place where zeros are ahead of ones the most, for the first time
+    // the right turn begins after the place where zeros are ahead of ones the most, for the first time
     let (mut ahead, mut most, mut turn) = (0i64, 0i64, 0);
     for (index, &one) in row.iter().enumerate() {
         ahead += if one { -1 } else { 1 };

@@ -138,7 +138,7 @@ fn asked(number: usize, image: &[u8], questions: &[i32], answers: &[u32]) -> Cas
     Case { number, call: with(&vec![99; answers.len()]), answer: done(answers.len() as u32, 0), after: with(answers) }
 }
 
-/// All cases, in order; what is left of case 1, R1 and R0 by themselves, stands inside the image of case 2.
+/// All cases, in order; what is left of case 1, R1 and R0 by themselves, is inside the image of case 2.
 pub fn table() -> Vec<Case> {
     let t_image = image_of_t();
     let mut cases = Vec::new();
@@ -201,7 +201,7 @@ mod tests {
             let tree = Tree::of_parent_list(parents).expect("a tree");
             let (found_r1, found_r0) = partition(&string_of_tree(&tree));
             assert_eq!((text(&found_r1).as_str(), text(&found_r0).as_str()), (r1, r0));
-            // and they stand in the image behind the counts of blocks 1 and 2
+            // and they are in the image after the counts of blocks 1 and 2
             let image = image_of_tree(&tree);
             let string_in =
                 |block: usize, length: usize| text(&bits_of_bytes(&image[512 * block + 4..][..1])[..length]);

@@ -110,8 +110,8 @@ pub const WRONG: &[Wrong] = &[
         },
     },
     Wrong {
-        name: "image-changes-byte-behind",
-        what: "plq_image_of_parents clears the byte behind the image, where there is one",
+        name: "image-changes-byte-after",
+        what: "plq_image_of_parents clears the byte after the image, where there is one",
         spoil: |_, after, answer| {
             if let (0, Call::ImageOfParents { parents, image }) = (answer.code, after) {
                 let tree = Tree::of_parent_list(parents).expect("accepted");
@@ -199,7 +199,7 @@ pub const WRONG: &[Wrong] = &[
     },
     Wrong {
         name: "check-ignores-header-zeros",
-        what: "plq_check_image does not look at the header behind its fourth word",
+        what: "plq_check_image does not look at the header after its fourth word",
         spoil: |_, after, answer| accept_where(after, answer, |image, _, _| image[16..PAYLOAD_BYTES].fill(0)),
     },
     Wrong {
@@ -215,7 +215,7 @@ pub const WRONG: &[Wrong] = &[
     },
     Wrong {
         name: "check-ignores-unused-bits",
-        what: "plq_check_image does not look at the bits behind R0",
+        what: "plq_check_image does not look at the bits after R0",
         spoil: |_, after, answer| {
             accept_where(after, answer, |image, _, layout| {
                 for index in layout.n + 1..layout.r0.len() * BITS_IN_BLOCK {
@@ -237,7 +237,7 @@ pub const WRONG: &[Wrong] = &[
     },
     Wrong {
         name: "check-ignores-unused-words",
-        what: "plq_check_image does not look at the words behind the samples of R1",
+        what: "plq_check_image does not look at the words after the samples of R1",
         spoil: |_, after, answer| {
             accept_where(after, answer, |image, _, layout| {
                 for word in layout.samples..layout.r1_samples.len() * PAYLOAD_WORDS {
@@ -357,8 +357,8 @@ pub const WRONG: &[Wrong] = &[
         },
     },
     Wrong {
-        name: "join-clears-all-behind",
-        what: "plq_join clears the bytes behind the new last one",
+        name: "join-clears-all-after",
+        what: "plq_join clears the bytes after the new last one",
         spoil: |_, after, answer| {
             if let (0, Call::Join { pack, .. }) = (answer.code, after) {
                 pack[answer.first.div_ceil(8) as usize..].fill(0);

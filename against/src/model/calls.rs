@@ -128,7 +128,7 @@ fn demand_bytes_of(bits: usize, bytes: &[u8]) -> Result<(), Refusal> {
     demand(bits <= MOST_BITS && bytes_for(bits) == bytes.len())
 }
 
-/// The first bits of the bytes that they take, where no bit behind them is set.
+/// The first bits of the bytes that they take, where no bit after them is set.
 fn bits_without_leftover(bytes: &[u8], count: usize) -> Result<Vec<bool>, Refusal> {
     let mut bits = bits_of_bytes(bytes);
     let leftover = bits.split_off(count);

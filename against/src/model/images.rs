@@ -10,7 +10,7 @@ pub const BLOCK_BYTES: usize = 512;
 /// "Each has 504 bytes of payload, read as 126 little-endian 32-bit words".
 pub const PAYLOAD_BYTES: usize = 504;
 pub const PAYLOAD_WORDS: usize = 126;
-/// "Then 500 bytes, 4,000 bits", behind the word with the count of earlier ones.
+/// "Then 500 bytes, 4,000 bits", after the word with the count of earlier ones.
 pub const BITS_IN_BLOCK: usize = 4_000;
 pub const COUNT_BYTES: usize = 4;
 /// "Ones number 1, 65, 129 and so on".
@@ -48,11 +48,11 @@ pub fn image_of_tree(tree: &Tree) -> Vec<u8> {
 /// The image made of two partitioned strings, whether or not they come from a tree.
 pub fn image_of_strings(r1: &[bool], r0: &[bool]) -> Vec<u8> {
     let parts = [string_blocks(r1), string_blocks(r0), sample_blocks(r1), sample_blocks(r0)];
-    let behind_header = parts.concat();
+    let after_header = parts.concat();
     let (n, m) = (number(r1.len()), number(ones_in(r1)));
-    let header = payload_of_words(&[VERSION, n, m, number(1 + behind_header.len())]);
+    let header = payload_of_words(&[VERSION, n, m, number(1 + after_header.len())]);
     let mut image = Vec::new();
-    for payload in std::iter::once(&header).chain(&behind_header) {
+    for payload in std::iter::once(&header).chain(&after_header) {
         image.extend(payload);
         image.extend([0; BLOCK_BYTES - PAYLOAD_BYTES]);
     }
@@ -98,7 +98,7 @@ pub fn sums_of_block(block: usize, payload: &[u8]) -> (u32, u32) {
     (s, t)
 }
 
-/// Writes the right sums behind every payload: "then s and t, four bytes each, little-endian".
+/// Writes the right sums after every payload: "then s and t, four bytes each, little-endian".
 pub fn seal(image: &mut [u8]) {
     for (number, block) in image.chunks_exact_mut(BLOCK_BYTES).enumerate() {
         let (payload, sums) = block.split_at_mut(PAYLOAD_BYTES);

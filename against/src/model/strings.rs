@@ -27,7 +27,7 @@ pub fn tree_of_string(bits: &[bool]) -> Result<Tree, Refusal> {
     Ok(tree)
 }
 
-/// Reads one string from index `begin` on; gives its tree and the index behind its last bit.
+/// Reads one string from index `begin` on; gives its tree and the index after its last bit.
 ///
 /// The nodes whose children are still to come wait in a queue: "a tree is over at the first bit where no node is
 /// pending". The place of a refusal is "first p whose first p bits begin no string of a tree of 1 to 65,535 nodes",

@@ -109,7 +109,7 @@ fn a_pack_gives_its_trees_back() {
 }
 
 #[test]
-fn what_lies_behind_the_needed_room_stays() {
+fn what_lies_after_the_needed_room_stays() {
     let mut bytes = [0xA5; 3];
     string_of_parents(&T, &mut bytes).unwrap();
     assert_eq!(bytes[2], 0xA5);

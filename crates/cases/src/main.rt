@@ -1,9 +1,10 @@
 // A program that runs a script of cases through the exported calls and prints what comes back.
 // It reads the script: each line is a word and numbers (crate `cases_script`); a line that begins
-// with no such word is a remark. A tree, and bytes in hand (a string, a pack or an image), stay from
-// line to line. Each line is printed, and below it what the public call answered and every list that
-// it wrote to, whole. Such a list holds 9s before the call: what is not written must stay. A number
-// that a line lacks is 0, and a size is cut to what there is, so that every script is safe to run.
+// with no such word is a remark. A tree, and bytes in hand (a string, a pack or an image), stay
+// from line to line. Each line is printed, and below it what the public call answered and every
+// list that it wrote to, whole. Such a list holds 9s before the call: what is not written must
+// stay. A number that a line lacks is 0, and a size is cut to what there is, so that every script
+// is safe to run.
 use cases_script::Word;
 use cases_script::number;
 use cases_script::room;

@@ -47,8 +47,8 @@ fn padding_right(b: &[u8], bits_block: usize, n: usize) -> bool
     rest_zero(b, bits_at(bits_block + last), n - 4000 * last)
 }
 
-// How many of the n bits of the string whose blocks begin at block `bits_block` are one: what its last
-// block counts before it, and the ones in it.
+// How many of the n bits of the string whose blocks begin at block `bits_block` are one: what its
+// last block counts before it, and the ones in it.
 fn ones_in_string(b: &[u8], bits_block: usize, n: usize) -> u32
     requires { ⌜ 1 ≤ n ⌝ }
     requires { ⌜ n ≤ 65536 ⌝ }

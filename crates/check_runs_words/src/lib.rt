@@ -36,8 +36,8 @@ fn bits_in_step(b: &[u8], at1: usize, at0: usize, n: usize, ones1: usize, ones0:
     true
 }
 
-// Of a byte of R1 at `at1`, which `ones1` ones come before, and a byte of R0 at `at0`, which `ones0`
-// come before: is R1 in step with R0 at each bit? R1 has `more` ones in its byte.
+// Of a byte of R1 at `at1`, which `ones1` ones come before, and a byte of R0 at `at0`, which
+// `ones0` come before: is R1 in step with R0 at each bit? R1 has `more` ones in its byte.
 fn byte_in_step(b: &[u8], at1: usize, at0: usize, ones1: usize, ones0: usize, more: usize) -> bool
     requires { ⌜ length (now b) ≤ 512 * mostBlock ⌝ }
     requires { ⌜ at1 + 1 ≤ length (now b) ⌝ }

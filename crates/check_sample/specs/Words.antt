@@ -12,8 +12,8 @@ use Rattle.check_sample.specs.declared.Piece.{Piece}
 abbrev pub bitsIn : Piece → ℕ
 bitsIn piece = piece .last + 1 - piece .first
 
--- of n bits from byte `at` on, the first of which has position `first` in their string: the position
--- of one number `nth` of them, from 1
+-- of n bits from byte `at` on, the first of which has position `first` in their string: the
+-- position of one number `nth` of them, from 1
 abbrev pub NamesOne : List ℕ → ℕ → ℕ → ℕ → ℕ → ℕ → Type 0
 NamesOne bytes at n first nth place =
     (p : ℕ) → p < n → bitAt bytes (8 * at + p) ≡ I → ones (bitsFrom bytes (8 * at) p) + 1 ≡ nth → place ≡ first + p

@@ -13,8 +13,8 @@ use bits_count::ones_ending;
 use image_string::all_zero;
 use image_words::word;
 
-// Bits of a string in an image, from byte `at` on: those from position `first` to position `last` of
-// the string, counted from 1.
+// Bits of a string in an image, from byte `at` on: those from position `first` to position `last`
+// of the string, counted from 1.
 pub struct Piece {
     pub at: usize,
     pub first: usize,

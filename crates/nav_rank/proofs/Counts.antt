@@ -63,10 +63,10 @@ module _ (bytes : List ℕ) (first j p : ℕ) (inside : p < 4000) where
       words-more bytes start (p / 64) (4000 - 64 * (p / 64))
       ∙ ap (λ n. ones (bitsFrom bytes (8 * start) n)) (let e : 64 * (p / 64) + (4000 - 64 * (p / 64)) ≡ 4000 = omega arith in e)
 
-  pub behind-is : (end part words last : ℕ) → end ≡ onesTo bytes first (4000 * (j + 1)) → part ≡ ones (bitsFrom bytes (8 * at) (p % 64))
+  pub end-is : (end part words last : ℕ) → end ≡ onesTo bytes first (4000 * (j + 1)) → part ≡ ones (bitsFrom bytes (8 * at) (p % 64))
       → words ≡ ones (bitsFrom bytes (8 * at) (64 * (62 - p / 64))) → last ≡ ones (bitsFrom bytes (8 * (start + 496)) 32)
       → end + part ≡ onesTo bytes first (4000 * j + p) + (words + last)
-  behind-is end part words last e f g h = omega (arith, to-bit, to-end, whole, full-more bytes first j)
+  end-is end part words last e f g h = omega (arith, to-bit, to-end, whole, full-more bytes first j)
 
 -- position x is bit number x - 1
 pub rank-is : (bytes : List ℕ) (first n x : ℕ) → 1 ≤ x → x ≤ n → (r : ℕ) → r ≡ onesTo bytes first (4000 * ((x - 1) / 4000) + (x - 1) % 4000)

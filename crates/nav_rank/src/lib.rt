@@ -49,7 +49,7 @@ fn from_front(b: &[u8], bits_block: usize, j: usize, p: usize) -> usize
 // How many ones of a string come before bit p of its block j, counted from the end of that block,
 // before which there are `end` ones: without those from the word of bit p on, of which the last is
 // half a word, but for those before p.
-fn from_behind(b: &[u8], bits_block: usize, j: usize, p: usize, end: usize) -> usize
+fn from_end(b: &[u8], bits_block: usize, j: usize, p: usize, end: usize) -> usize
     requires { ⌜ p < 4000 ⌝ }
     requires { ⌜ «bits_block» + j ≤ mostBlock + mostBlock ⌝ }
     requires { ⌜ 512 * («bits_block» + j + 1) ≤ length (now b) ⌝ }
@@ -98,5 +98,5 @@ pub fn rank(b: &[u8], bits_block: usize, n: usize, m: usize, x: usize) -> usize
     if p < 2000 {
         return from_front(b, bits_block, j, p);
     }
-    from_behind(b, bits_block, j, p, ones_to_end(b, bits_block, n, m, j))
+    from_end(b, bits_block, j, p, ones_to_end(b, bits_block, n, m, j))
 }

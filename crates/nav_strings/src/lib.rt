@@ -21,8 +21,8 @@ pub fn bit_r1(b: &[u8], x: usize) -> u8
     string_bit(b, 1, x - 1)
 }
 
-// Bit x, from 1, of R0, which begins at block `r0_block`: 1 if node x has a child. It is handed that
-// block and not the layout, since a listing would copy the layout for each of its nodes.
+// Bit x, from 1, of R0, which begins at block `r0_block`: 1 if node x has a child. It is handed
+// that block and not the layout, since a listing would copy the layout for each of its nodes.
 pub fn bit_r0(b: &[u8], r0_block: usize, x: usize) -> u8
     requires { ⌜ IsNode (now b) (layoutIn (now b)) x ⌝ }
     requires { ⌜ «r0_block» ≡ r0Block (nodesOf (now b)) ⌝ }

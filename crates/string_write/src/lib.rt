@@ -8,8 +8,8 @@ ghost use Rattle.bits_append.specs.Appended.{appended};
 use bits_wide::wide;
 
 // Writes the string of a parent list after the first `from` bits of a buffer: zeros, and among them
-// a one for each entry, which comes after the ones of earlier entries and as many zeros as the entry
-// says.
+// a one for each entry, which comes after the ones of earlier entries and as many zeros as the
+// entry says.
 pub fn write_string(buf: &mut [u8], from: usize, ps: &[u32])
     requires { ⌜ 1 ≤ length (now ps) ⌝ }
     requires { ⌜ length (now ps) ≤ 65535 ⌝ }

@@ -31,8 +31,8 @@ fn spread_byte(x: u8, n: usize, i: usize, p: usize, out: &mut [u32]) -> usize
     from
 }
 
-// For each of n bits from byte `at` on, from entry i on, writes the number at entry p; a one moves p
-// on. Answers where p comes to.
+// For each of n bits from byte `at` on, from entry i on, writes the number at entry p; a one moves
+// p on. Answers where p comes to.
 fn spread_block(b: &[u8], at: usize, n: usize, i: usize, p: usize, out: &mut [u32]) -> usize
     requires { ⌜ n ≤ 4000 ⌝ }
     requires { ⌜ at + 501 ≤ length (now b) ⌝ }

@@ -9,8 +9,8 @@ ghost use Rattle.unseal_byte.specs.Placed.{Placed};
 use image_layout::bits_at;
 use unseal_byte::write_byte_positions;
 
-// Of n bits from byte `at` on, which i bits of their string come before, writes the position of each
-// one, the last of them before entry k of `out`, and answers the entry of the first.
+// Of n bits from byte `at` on, which i bits of their string come before, writes the position of
+// each one, the last of them before entry k of `out`, and answers the entry of the first.
 fn write_block_positions(
     b: &[u8],
     at: usize,

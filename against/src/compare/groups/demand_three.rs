@@ -27,7 +27,7 @@ pub fn demand_three(comparison: &mut Comparison, random: &mut Random) -> Result<
 }
 
 /// "No tree's string is the beginning of another tree's", for all trees of up to 7 nodes, as the library makes the
-/// strings. And a string cut short or with one bit more is no string, at the bit behind.
+/// strings. And a string cut short or with one bit more is no string, at the bit after it.
 fn no_string_begins_another(comparison: &mut Comparison) -> Result<(), Enough> {
     let mut strings: Vec<Vec<bool>> = Vec::new();
     for parents in (1..=7).flat_map(all_trees) {
@@ -46,7 +46,7 @@ fn no_string_begins_another(comparison: &mut Comparison) -> Result<(), Enough> {
             let compared = comparison.compare(read)?;
             let refused = compared.answer.code == NOT_A_STRING;
             let there = compared.answer.place as usize == place;
-            comparison.demand(refused && there, "refused at the bit behind", &compared)?;
+            comparison.demand(refused && there, "refused at the bit after it", &compared)?;
         }
         strings.push(string);
     }
@@ -123,8 +123,8 @@ fn changed_bits_show(comparison: &mut Comparison, random: &mut Random, trees: &[
             let answer = compared.answer;
             let shows = !(odd && answer.code == DONE);
             comparison.demand(shows, "an odd number of changed bits is never accepted", &compared)?;
-            let behind = answer.code != NOT_A_STRING || answer.place as usize >= first;
-            comparison.demand(behind, "no bit before the first changed one is named", &compared)?;
+            let not_before = answer.code != NOT_A_STRING || answer.place as usize >= first;
+            comparison.demand(not_before, "no bit before the first changed one is named", &compared)?;
         }
     }
     Ok(())

@@ -94,7 +94,7 @@ fn there_and_back(comparison: &mut Comparison, random: &mut Random, forms: &Form
         let bytes = random.bytes(room);
         comparison.compare(Call::StringOfParents { parents: parents(), bytes: bytes.clone() })?;
         comparison.compare(Call::Join { pack: bytes, bits: 0, trees: 0, parents: parents() })?;
-        // behind a pack of two trees: 10100 and 100
+        // after a pack of two trees: 10100 and 100
         let pack = [&[0b1010_0100], random.bytes(room).as_slice()].concat();
         comparison.compare(Call::Join { pack, bits: 8, trees: 2, parents: parents() })?;
     }
@@ -112,7 +112,7 @@ fn there_and_back(comparison: &mut Comparison, random: &mut Random, forms: &Form
     Ok(())
 }
 
-/// All kinds, all nodes, all arguments worth asking, in lists of up to 256; then each kind of odd question, behind
+/// All kinds, all nodes, all arguments worth asking, in lists of up to 256; then each kind of odd question, after
 /// good ones.
 fn every_question(comparison: &mut Comparison, random: &mut Random, forms: &Forms) -> Result<(), Enough> {
     let n = forms.node_count() as i32;

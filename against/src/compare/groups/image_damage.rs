@@ -105,7 +105,7 @@ fn edit(random: &mut Random, image: &mut [u8], layout: &Layout) {
             }
         }
         4 => {
-            // unused bits behind a string: the first of them, or any
+            // unused bits after a string: the first of them, or any
             let (first, blocks, bits) = either_string(random, layout);
             let unused = blocks * BITS_IN_BLOCK - bits;
             if unused > 0 {
@@ -115,7 +115,7 @@ fn edit(random: &mut Random, image: &mut [u8], layout: &Layout) {
             }
         }
         5 => {
-            // unused words behind the samples: the first of them, or any
+            // unused words after the samples: the first of them, or any
             let (first, blocks) = either_samples(random, layout);
             let unused = blocks * PAYLOAD_WORDS - layout.samples;
             if unused > 0 {

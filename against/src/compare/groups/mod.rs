@@ -17,7 +17,7 @@ use super::twelve_cases;
 /// A group of calls.
 pub struct Group {
     pub name: &'static str,
-    /// Whether another seed gives calls that are worth another run; elsewhere little more than what stands in the
+    /// Whether another seed gives calls that are worth another run; elsewhere little more than what is in the
     /// outputs before the call depends on it.
     pub drawn: bool,
     pub run: fn(&mut Comparison, &mut Random) -> Result<(), Enough>,

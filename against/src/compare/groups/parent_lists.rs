@@ -38,7 +38,7 @@ fn change_entry(random: &mut Random, parents: &mut [u32]) {
     let index = random.below(parents.len());
     let entry = number(index) + 1;
     let (before, own) = (parents[index.saturating_sub(1)], parents[index]);
-    // two entries may be changed in turn, so what stands there may be any number already
+    // two entries may be changed in turn, so what is there may be any number already
     let around = [own.wrapping_sub(1), own.wrapping_add(1), before.wrapping_sub(1)];
     let near = [around, [entry - 1, entry, entry + 1]].concat();
     let far = [0, 1, number(parents.len()), 65_535, 65_536, 1 << 31, u32::MAX, random.word()];
@@ -51,7 +51,7 @@ fn offer(comparison: &mut Comparison, random: &mut Random, parents: Vec<u32>) ->
     comparison.compare(Call::StringOfParents { parents: parents.clone(), bytes })?;
     let image = random.bytes(5 * 512);
     comparison.compare(Call::ImageOfParents { parents: parents.clone(), image })?;
-    // behind one tree, 100, in a buffer that mostly has room
+    // after one tree, 100, in a buffer that mostly has room
     let room = if random.one_in(8) { 0 } else { string_room };
     let pack = [&[0b1000_0000], random.bytes(room).as_slice()].concat();
     comparison.compare(Call::Join { pack, bits: 3, trees: 1, parents })?;

@@ -227,7 +227,7 @@ fn joined_lengths(comparison: &mut Comparison, random: &mut Random) -> Result<()
                 buffer.resize(room, 0xC3);
                 let mut parents = tree_of_size(random, n);
                 comparison.compare(Call::Join { pack: buffer.clone(), bits, trees, parents: parents.clone() })?;
-                // a bad entry is found behind a wrong length only
+                // a bad entry is found after a wrong length only
                 parents[n / 2] = u32::MAX;
                 comparison.compare(Call::Join { pack: buffer, bits, trees, parents })?;
             }
@@ -236,7 +236,7 @@ fn joined_lengths(comparison: &mut Comparison, random: &mut Random) -> Result<()
     Ok(())
 }
 
-/// Strings whose tree goes on to its 65,535th or 65,536th one, alone and behind another tree.
+/// Strings whose tree goes on to its 65,535th or 65,536th one, alone and after another tree.
 fn ones_of_a_tree(comparison: &mut Comparison, random: &mut Random) -> Result<(), Enough> {
     let largest = Forms::of(parent_list(Shape::Star, 65_535, random)).string;
     let last_one = largest.iter().rposition(|&bit| bit).expect("has ones");
@@ -251,9 +251,9 @@ fn ones_of_a_tree(comparison: &mut Comparison, random: &mut Random) -> Result<()
             let parents = random.words(65_535);
             comparison.compare(Call::ParentsOfString { bytes, bits: length, parents })?;
             split(comparison, random, &string[..length], 1)?;
-            // behind 100
-            let behind = [&[true, false, false], &string[..length - 3]].concat();
-            split(comparison, random, &behind, 2)?;
+            // after 100
+            let after = [&[true, false, false], &string[..length - 3]].concat();
+            split(comparison, random, &after, 2)?;
         }
     }
     Ok(())

@@ -28,14 +28,14 @@ ones-to-end-requires c κs =
     let p = c .before .before .pre .1 .1 in
     (p .0, (p .1 .0, (p .1 .1 .0, (p .1 .1 .1 .0, (p .1 .1 .1 .1, omega arith)))))
 
-from-behind-requires : tie.Need-from-behind-requires
-from-behind-requires c κs = omega arith
+from-end-requires : tie.Need-from-end-requires
+from-end-requires c κs = omega arith
 
 returns-2 : tie.Need-returns-2
 returns-2 c =
     let s = c .before .before .before .before in
     let a = s .args in
-    rank-is (a .b .now) (a .bits-block) (a .n) (a .x) (s .pre .0) (s .pre .1 .0) (c .from-behind .result) (c .from-behind .ensures)
+    rank-is (a .b .now) (a .bits-block) (a .n) (a .x) (s .pre .0) (s .pre .1 .0) (c .from-end .result) (c .from-end .ensures)
 
 pub rank-spec : {M : Type 1} → statement M
 rank-spec =
@@ -46,5 +46,5 @@ rank-spec =
     from-front-requires
     returns
     ones-to-end-requires
-    from-behind-requires
+    from-end-requires
     returns-2)

@@ -1,13 +1,13 @@
--- `nav_rank::from_behind` meets its contract.
+-- `nav_rank::from_end` meets its contract.
 use mathlib.Core.Path.{_≡_, refl, _∙_, ap}
 use Prim.Native.Nat.{ℕ, _+_, _-_, _*_, _/_, _%_}
 use native.Mathlib.Omega.{arith}
 use Rattle.meaning.specs.Strings.{ones}
 use Rattle.meaning.specs.Bytes.{bitsFrom}
 use Rattle.image_string.specs.Parts.{onesTo}
-use Rattle.nav_rank.proofs.Counts.{behind-is}
-use Rattle.nav_rank.proofs.from_behind.Statement.{statement}
-use Rattle.nav_rank.proofs.from_behind.Tie as tie
+use Rattle.nav_rank.proofs.Counts.{end-is}
+use Rattle.nav_rank.proofs.from_end.Statement.{statement}
+use Rattle.nav_rank.proofs.from_end.Tie as tie
 
 -- what is taken off, whatever the half word at the end has
 taken : (c : tie.After-ones-in-words) → (last : ℕ) → let bits = c .before .before in
@@ -23,7 +23,7 @@ taken c last e =
     let rest = c .before .ones-before .ensures ∙ ap (λ q. ones (bitsFrom (a .b .now) (8 * (q + 8 * (a .p / 64))) (a .p % 64))) at in
     let words = c .ones-in-words .ensures ∙ ap (λ q. ones (bitsFrom (a .b .now) (8 * (q + 8 * (a .p / 64))) (64 * (62 - a .p / 64)))) at in
     let half = e ∙ ap (λ q. ones (bitsFrom (a .b .now) (8 * (q + 496)) 32)) at in
-    behind-is (a .b .now) (a .bits-block) (a .j) (a .p) (p .0) (a .end) (c .before .ones-before .result) (c .ones-in-words .result) last (p .1 .1 .1 .1)
+    end-is (a .b .now) (a .bits-block) (a .j) (a .p) (p .0) (a .end) (c .before .ones-before .result) (c .ones-in-words .result) last (p .1 .1 .1 .1)
     rest words half
 
 add-bits-at : tie.Need-add-bits-at
@@ -76,8 +76,8 @@ sub-result-2 c = omega (arith, taken (c .before) (c .ones-before2 .result) (c .o
 returns : tie.Need-returns
 returns c = omega (arith, taken (c .before) (c .ones-before2 .result) (c .ones-before2 .ensures))
 
-pub from-behind-spec : {M : Type 1} → statement M
-from-behind-spec =
+pub from-end-spec : {M : Type 1} → statement M
+from-end-spec =
     tie.close
     (tie.spec
     add-bits-at
