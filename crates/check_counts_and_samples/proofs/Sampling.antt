@@ -34,7 +34,11 @@ sample-of-one r i q h e c l =
 
 -- ---- a block
 
--- the same said of a place, a count and a position that are equal
+-- from the first position of block number j, n positions
+pub piece-bits : (j n : ℕ) → 4000 * j + n + 1 - (4000 * j + 1) ≡ n
+piece-bits j n = omega arith
+
+-- what is said of a one by its place, its count and its position holds by equal ones too
 moved : (bytes : List ℕ) (from a z x b y w : ℕ) → a ≡ b → z ≡ y → x ≡ w
     → (bitAt bytes a ≡ I → SampledHere bytes from z x) → bitAt bytes b ≡ I → SampledHere bytes from y w
 moved bytes from a z x b y w e f g s one d =

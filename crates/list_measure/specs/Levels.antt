@@ -33,8 +33,9 @@ abbrev pub WhereFits : Measured → Type 0 → Type 0
 WhereFits (Fits n) p = p
 WhereFits (TooDeep x) p = Unit
 
--- the same by levels, where n nodes are above: a level is the nodes after a, up to z, the next
--- one those after `next a`, up to `next z`, and none may be there after `left` more
+-- what a listing takes, found level by level, where n nodes are above: a level is the nodes after
+-- a, up to z, the next one those after `next a`, up to `next z`, and none may be there after `left`
+-- more
 unfoldable pub levelsFrom : (ℕ → ℕ) → ℕ → ℕ → ℕ → ℕ → Measured
 levelsFrom next zero a z n = cond (ltb a z) (TooDeep (suc a)) (Fits n)
 levelsFrom next (suc left) a z n = cond (ltb a z) (levelsFrom next left (next a) (next z) (n + (z - a))) (Fits n)

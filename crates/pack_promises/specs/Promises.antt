@@ -167,7 +167,8 @@ NeverNamedBefore = (a b : List ℕ) (L k k′ : ℕ) (firsts sizes firsts′ siz
     → take j (bitsFrom a 0 L) ≡ take j (bitsFrom b 0 L) → j ≤ L
     → j < splitPack b L k′ firsts′ sizes′ .answer .place
 
--- the same of a pack that a tree is joined to
+-- however many bits of an accepted pack are changed before a tree is joined to it, code 4 names
+-- none before the first changed bit
 abbrev pub JoinNeverNamesBefore : Type 0
 JoinNeverNamesBefore = (a b : List ℕ) (L k k′ : ℕ) (firsts sizes ps : List ℕ) (j : ℕ)
     → splitPack a L k firsts sizes .answer .code ≡ 0 → joinPack b L k′ ps .answer .code ≡ 4

@@ -145,7 +145,7 @@ module _ (out : List ℕ) (zeros c byte x : ℕ) where
       ap₂ (λ p j. set out p (bitOr (getD out p 0) (128 / 2 ^ j)))
       (let f : bytePlace zeros (x / 8) ≡ bitPlace zeros x / 8 = omega arith in f) (let g : x % 8 ≡ bitPlace zeros x % 8 = omega arith in g)
 
-  -- the same byte
+  -- the byte at hand is the one to be changed
   at-hand : x / 8 ≡ c → bytePlace zeros c < length out → set out (bytePlace zeros c) (bitOr byte (128 / 2 ^ (x % 8))) ≡ lit (set out (bytePlace zeros c) byte) (bitPlace zeros x)
   unfolding lit
   at-hand e h =

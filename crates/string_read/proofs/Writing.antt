@@ -136,7 +136,7 @@ module _ (b : List ℕ) (n : ℕ) where
     pub kept-next : (r : ℕ) → r ≡ value (bitAt b p) → nodes ≤ length old → Kept nodes old (set out k (p - k)) (k + r) (p + 1)
     kept-next r e room = subst (λ v. Kept nodes old (set out k (p - k)) (k + v) (p + 1)) (sym e) (step (bitAt b p) refl room)
 
-  -- the same of several bits at once
+  -- what is kept after one bit is kept after several
   kept-many : (nodes : ℕ) (old : List ℕ) (bs : List Bit) (out : List ℕ) (k p k′ p′ : ℕ) → Kept nodes old out k p → nodes ≤ length old
       → after p ≡ bs ++ after p′ → k + length bs ≤ nodes → k′ ≡ k + ones bs → p′ ≡ p + length bs → Kept nodes old (entered bs k p out) k′ p′
   unfolding entered

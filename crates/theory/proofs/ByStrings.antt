@@ -136,7 +136,7 @@ module _ (t : Tree) where
       | no l ↦ left-none t x g there k (omega arith) ∙ sym (within-low (lo t p) (lo t (suc p)) (x - suc k) (omega arith))
     ]
 
-    -- the same with what the strings give for the bounds
+    -- the bounds of the children of x, as the strings give them
     bounded : (y : ℕ) → within (lo t x) (lo t (suc x)) y ≡ within (given x) (given (suc x)) y
     bounded y = ap₂ (λ a b. within a b y) (sym before-own) (sym after-own)
 

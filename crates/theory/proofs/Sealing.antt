@@ -189,7 +189,8 @@ is-sealed ps bytes l e h =
     unsealed sumStart ps bytes 0 l
     (sym (ap (λ k. wrongFrom sumStart (cut k 512 bytes) 0) (let q : blocksIn bytes ≡ length ps = omega arith in q)) ∙ e ∙ omega arith) h
 
--- the same by words
+-- bytes are sealed payloads if their sums are right and each word of each block is that of its
+-- payload
 pub is-sealed-words : (ps : List (List ℕ)) (bytes : List ℕ) → AreBytes bytes → ((j : ℕ) → j < length ps → AreBytes (getD ps j []))
     → length bytes ≡ 512 * length ps → wrongBlock bytes ≡ length ps
     → ((j w : ℕ) → j < length ps → w < 126 → wordAt bytes (512 * j + 4 * w) ≡ wordAt (getD ps j []) (4 * w)) → bytes ≡ sealed sumStart ps 0

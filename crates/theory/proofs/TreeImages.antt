@@ -182,7 +182,7 @@ is-image bytes = (there, back)
         ∙ ap₂ _&&_ (is-tree (parents t) .1 (parents-are t, omega (arith, r .1, length-parents t)))
         (ap (λ x. same x bytes) (ap imageOfString (string-parents t) ∙ r .2) ∙ same-refl bytes)
 
--- the same word by word, as a check of an image goes
+-- which bytes are the image of a tree, word by word, as a check of an image goes
 pub image-laid : (bytes : List ℕ) → AreBytes bytes → ((t : Tree) × (nodes t ≤ 65535) × (image t ≡ bytes))
     ↔ ((m : ℕ) × (a : List Bit) × (b : List Bit) × Runs m a × Runs m b × (length b ≡ suc (length a)) × (length a ≤ 65535) × IsParents (parentsOf (woven a b)) × Laid bytes a b)
 image-laid bytes h = (there, back)

@@ -10,7 +10,7 @@ use Rattle.check_counts_and_samples.specs.Samples.{SampledWithin}
 use Rattle.image_string.specs.Decides.{Decides}
 use Rattle.image_string.proofs.Saying.{decides-same}
 use Rattle.image_string.proofs.Ones.{onesTo-le, onesTo-block}
-use Rattle.check_counts_and_samples.proofs.Sampling.{sampled-block, block-sampled}
+use Rattle.check_counts_and_samples.proofs.Sampling.{piece-bits, sampled-block, block-sampled}
 use Rattle.check_counts_and_samples.proofs.block_sampled.Statement.{statement}
 use Rattle.check_counts_and_samples.proofs.block_sampled.Tie as tie
 
@@ -47,8 +47,7 @@ piece-sampled-requires c κs =
     let b = a .b .now in
     let most = onesTo-le b (a .bits-block) (4000 * a .j) in
     let whole = onesTo-block b (a .bits-block) (a .j) (a .n) (omega arith) in
-    let n : 4000 * a .j + a .n + 1 - (4000 * a .j + 1) ≡ a .n = omega arith in
-    let same = ap (λ m. ones (bitsFrom b (8 * (512 * (a .bits-block + a .j) + 4)) m)) n in
+    let same = ap (λ m. ones (bitsFrom b (8 * (512 * (a .bits-block + a .j) + 4)) m)) (piece-bits (a .j) (a .n)) in
     (omega arith, (omega arith, (omega arith, (omega arith, (omega arith, (omega arith, (omega arith, omega arith)))))))
 
 returns : tie.Need-returns
@@ -58,8 +57,7 @@ returns c =
     let k = c .before .word .result in
     let e = c .before .word .ensures ∙ c .before .before .before .pre .1 .1 .1 .1 .1 .1 .1 in
     let at = 512 * (a .bits-block + a .j) + 4 in
-    let n : 4000 * a .j + a .n + 1 - (4000 * a .j + 1) ≡ a .n = omega arith in
-    let sampled = subst (λ m. Decides (c .piece-sampled .result) (PieceSampled b (a .samples) at m (4000 * a .j + 1) k)) n (c .piece-sampled .ensures) in
+    let sampled = subst (λ m. Decides (c .piece-sampled .result) (PieceSampled b (a .samples) at m (4000 * a .j + 1) k)) (piece-bits (a .j) (a .n)) (c .piece-sampled .ensures) in
     decides-same (c .piece-sampled .result) (PieceSampled b (a .samples) at (a .n) (4000 * a .j + 1) k)
     (SampledWithin b (a .samples) (a .bits-block) (4000 * a .j) (4000 * a .j + a .n))
     (sampled-block b (a .samples) (a .bits-block) (a .j) (a .n) k (omega arith) e) (block-sampled b (a .samples) (a .bits-block) (a .j) (a .n) k (omega arith) e) sampled

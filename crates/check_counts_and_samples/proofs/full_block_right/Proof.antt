@@ -10,7 +10,7 @@ use Rattle.check_counts_and_samples.specs.Samples.{BlockRight}
 use Rattle.image_string.specs.Decides.{Decides}
 use Rattle.image_string.proofs.Saying.{decides-same}
 use Rattle.image_string.proofs.Ones.{onesTo-le, onesTo-block}
-use Rattle.check_counts_and_samples.proofs.Sampling.{sampled-block, block-sampled}
+use Rattle.check_counts_and_samples.proofs.Sampling.{piece-bits, sampled-block, block-sampled}
 use Rattle.check_counts_and_samples.proofs.full_block_right.Statement.{statement}
 use Rattle.check_counts_and_samples.proofs.full_block_right.Tie as tie
 
@@ -55,9 +55,8 @@ returns c =
     let e = c .before .word .ensures ∙ c .before .before .before .pre .1 .1 .1 .1 .1 in
     let at = 512 * (a .bits-block + a .j) + 4 in
     let whole = onesTo-block b (a .bits-block) (a .j) 4000 (omega arith) in
-    let n : 4000 * a .j + 4000 + 1 - (4000 * a .j + 1) ≡ 4000 = omega arith in
     let right =
-    subst (λ m. Decides (c .full-piece-right .result) ((a .end ≡ k + ones (bitsFrom b (8 * at) m)) × PieceSampled b (a .samples) at m (4000 * a .j + 1) k)) n
+    subst (λ m. Decides (c .full-piece-right .result) ((a .end ≡ k + ones (bitsFrom b (8 * at) m)) × PieceSampled b (a .samples) at m (4000 * a .j + 1) k)) (piece-bits (a .j) 4000)
     (c .full-piece-right .ensures) in
     decides-same (c .full-piece-right .result) ((a .end ≡ k + ones (bitsFrom b (8 * at) 4000)) × PieceSampled b (a .samples) at 4000 (4000 * a .j + 1) k)
     (BlockRight b (a .samples) (a .bits-block) (a .j) (a .end))
