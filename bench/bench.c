@@ -191,7 +191,7 @@ static struct tree *new_tree(const struct kind *kind, uint64_t seed, const struc
     require(image.code == PLQ_DONE && string.code == PLQ_DONE, "a tree cannot be sealed");
     const enum call of_image[] = {CHECK_IMAGE, ASK, PARENTS_OF_IMAGE, LIST};
     for (size_t i = 0; i < sizeof of_image / sizeof *of_image; i++)
-        r[of_image[i]] = (struct request){.call = of_image[i], .bytes = tree->image, .nbytes = PLQ_BLOCK_BYTES * (size_t)tree->image[12], .room = 2 * (size_t)n};
+        r[of_image[i]] = (struct request){.call = of_image[i], .bytes = tree->image, .nbytes = plq_image_bytes(tree->image), .room = 2 * (size_t)n};
     r[ASK].numbers = 3 * PLQ_MOST_QUESTIONS;
     r[LIST].node = node_to_list(tree->parents, n);
     r[PARENTS_OF_STRING] =
@@ -232,9 +232,9 @@ static void free_bed(struct bed *bed)
     free(bed);
 }
 
-static uint32_t blocks_of(const struct bed *bed)
+static size_t blocks_of(const struct bed *bed)
 {
-    return bed->trees[0]->image[12];
+    return plq_image_bytes(bed->trees[0]->image) / PLQ_BLOCK_BYTES;
 }
 
 /* ---- do they all do the same? ---- */
@@ -449,7 +449,7 @@ static void print_both(double middle, double of_least, const struct row *row)
 
 static void print_kind(const struct bed *bed, const char *row)
 {
-    printf("| %s | %s, %u nodes | %u |", row, name_of_shape(bed->kind->shape), bed->kind->n, blocks_of(bed));
+    printf("| %s | %s, %u nodes | %zu |", row, name_of_shape(bed->kind->shape), bed->kind->n, blocks_of(bed));
 }
 
 /* What the named forms of sums and listing cost plain C on one bed. */

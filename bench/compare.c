@@ -270,7 +270,7 @@ void compare_tree(struct comparison *c, const uint32_t *parents, uint32_t n, uin
     struct request make_string = {.call = STRING_OF_PARENTS, .parents = parents, .n = n, .room = (2 * (size_t)n + 8) / 8};
     make_call(first, &make_image, &to_image);
     make_call(first, &make_string, &to_string);
-    size_t nbytes = PLQ_BLOCK_BYTES * (image[12] + 256 * (size_t)image[13]), bits = 2 * (size_t)n + 1;
+    size_t nbytes = plq_image_bytes(image), bits = 2 * (size_t)n + 1;
     compare_call(c, make_image);
     make_image.room = nbytes;
     compare_rooms(c, make_image);

@@ -1,45 +1,58 @@
-/* What the phone does with a sealed diary: lock the container, copy the image, unlock, and only then ask the copy.
+/* What the phone does with a sealed diary.
  *
  *     phone CONTAINER [NODE]     the seasons and weeks of the diary, and what is around NODE
  *
- * The lock is held while at most 27,136 bytes are copied, and never while they are checked, asked or shown. If the
- * phone goes to sleep in the middle of the diary, the container is free and the watch can write its lap.
+ * 1. Lock. The lock is for reading, on a file beside the container; a writer waits for it, other readers do not.
+ * 2. Copy. At most 27,136 bytes go into a buffer of this program. Nothing is parsed, checked or shown meanwhile.
+ * 3. Unlock, at once, also where copying failed. The lock was held for one read of one small file.
+ * 4. Ask the copy. The check, the listing and the questions see the copy alone, so nobody can change it under them. It
+ *    may be minutes until the owner has scrolled to the end, or the phone may go to sleep in the middle: the container
+ *    is free, the watch can write its lap, and the system has no lock to end this program for.
+ *
+ * The copy is as it was when it was made. Who wants to see newer laps copies again; a sealed diary is never edited, so
+ * there is nothing to merge. The check comes after the copy, since damage is found in the copy as well as in the file.
  * Exit status: 0 shown, 1 refused by the library, 2 the container could not be read. */
 #define _DEFAULT_SOURCE /* flock */
+#include "container.h"
 #include "refusal.h"
-#include <errno.h>
-#include <fcntl.h>
 #include <stdlib.h>
 #include <string.h>
-#include <sys/file.h>
-#include <unistd.h>
 
 enum { DIARY, SEASON, WEEK, RUN, LAP }; /* depths */
 
-/* Copies the container and gives its length, at most `room`; -1 if the system says no. The lock ends here. */
-static ssize_t copy_container(const char *name, uint8_t *copy, size_t room)
+/* Reads up to `room` bytes of a file and gives their number; -1 if the system says no. */
+static ssize_t read_file(const char *name, uint8_t *bytes, size_t room)
 {
-    int file = open(name, O_RDONLY);
+    int file = open(name, O_RDONLY | O_CLOEXEC);
     if (file < 0) return -1;
     size_t size = 0;
-    ssize_t got = flock(file, LOCK_SH) < 0 ? -1 : 1;
+    ssize_t got = 1;
     while (got > 0 && size < room) {
-        do got = read(file, copy + size, room - size);
+        do got = read(file, bytes + size, room - size);
         while (got < 0 && errno == EINTR);
         if (got > 0) size += (size_t)got;
     }
     int error = errno;
-    flock(file, LOCK_UN);
     close(file);
     errno = error;
     return got < 0 ? -1 : (ssize_t)size;
 }
 
+/* Locks, copies, unlocks: the lock begins and ends in this function. */
+static ssize_t copy_container(const char *name, uint8_t *copy, size_t room)
+{
+    int lock = lock_container(name, LOCK_SH);
+    if (lock < 0 && errno != ENOENT) return -1;
+    ssize_t size = read_file(name, copy, room);
+    unlock_container(lock);
+    return size;
+}
+
 /* A line for each season and week, with the number of weeks, runs and laps in it: all from one listing. */
 static int show_seasons(const uint8_t *image, size_t size)
 {
-    static uint32_t pairs[2 * PLQ_MOST_NODES];
-    plq_answer listed = plq_list(image, size, 1, pairs, 2 * PLQ_MOST_NODES);
+    static uint32_t pairs[PLQ_LISTING_NUMBERS(PLQ_MOST_NODES)];
+    plq_answer listed = plq_list(image, size, 1, pairs, PLQ_LISTING_NUMBERS(PLQ_MOST_NODES));
     if (listed.code != PLQ_DONE) return refused("the listing", listed);
 
     for (size_t at = 0; at < listed.first; at++) {
@@ -77,15 +90,11 @@ static int show_around(const uint8_t *image, size_t size, int32_t node)
         {"sibling two to the left", PLQ_SIBLING_AT, -2, 1},
     };
     enum { COUNT = sizeof asked / sizeof *asked };
-    int32_t questions[3 * COUNT];
+    plq_question questions[COUNT];
     uint32_t answers[COUNT];
 
-    for (size_t i = 0; i < COUNT; i++) {
-        questions[3 * i] = asked[i].kind;
-        questions[3 * i + 1] = node;
-        questions[3 * i + 2] = asked[i].argument;
-    }
-    plq_answer done = plq_ask(image, size, questions, 3 * COUNT, answers, COUNT);
+    for (size_t i = 0; i < COUNT; i++) questions[i] = (plq_question){asked[i].kind, node, asked[i].argument};
+    plq_answer done = plq_ask_questions(image, size, questions, COUNT, answers, COUNT);
     if (done.code != PLQ_DONE) return refused("the questions", done);
 
     printf("node %d\n", (int)node);

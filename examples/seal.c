@@ -3,16 +3,19 @@
  *     seal [DIARY [CONTAINER]]     from standard input and to standard output where a name is left out
  *
  * The text has the parent of each node in level order, with blanks between the numbers; from # to the end of a line
- * is a comment. The image is made before the container is locked, and the lock is held only while it is written.
+ * is a comment.
+ *
+ * A container is replaced and never changed: the image goes to a new file, CONTAINER.new, that file is brought to the
+ * disk, and only then a rename gives it the container's name. A rename happens or does not happen. So whoever ends this
+ * program, at whatever moment, leaves the old diary whole or the new one, and so does a loss of power. CONTAINER.new
+ * belongs to the holder of the lock: what a killed program left there is written over by the next one.
+ * The image is made before the lock is taken; the lock is held while at most 27,136 bytes are written and renamed.
  * Exit status: 0 sealed, 1 refused by the library, 2 no parent numbers could be read or no image written. */
 #define _DEFAULT_SOURCE /* flock */
+#include "container.h"
 #include "refusal.h"
 #include <ctype.h>
-#include <errno.h>
-#include <fcntl.h>
 #include <string.h>
-#include <sys/file.h>
-#include <unistd.h>
 
 enum { ROOM = PLQ_MOST_NODES + 1 }; /* one too many, so that a diary that is too large is refused by the library */
 
@@ -68,15 +71,53 @@ static int write_all(int file, const uint8_t *bytes, size_t count)
     return 0;
 }
 
-static int write_container(const char *name, const uint8_t *image, size_t size)
+/* Writes a file and returns when its bytes are on the disk, so that no rename can come before them. */
+static int write_to_disk(const char *name, const uint8_t *bytes, size_t count)
 {
-    int file = open(name, O_WRONLY | O_CREAT, 0666);
-    if (file < 0) return failed(name);
-    int status = 0;
-    if (flock(file, LOCK_EX) < 0 || ftruncate(file, 0) < 0 || write_all(file, image, size) < 0) status = failed(name);
-    flock(file, LOCK_UN);
-    if (close(file) < 0 && status == 0) status = failed(name);
-    return status;
+    int file = open(name, O_WRONLY | O_CREAT | O_TRUNC | O_CLOEXEC, 0666);
+    if (file < 0) return -1;
+    int written = write_all(file, bytes, count);
+    if (written == 0) written = fsync(file);
+    int error = errno;
+    if (close(file) < 0 && written == 0) return -1;
+    errno = error;
+    return written;
+}
+
+/* Brings the names in the container's folder to the disk: before that a loss of power may undo the rename. */
+static int folder_to_disk(const char *container)
+{
+    char folder[PATH_MAX];
+    if (name_beside(container, "", folder) < 0) return -1;
+    char *slash = strrchr(folder, '/');
+    if (slash) slash[1] = '\0';
+    int file = open(slash ? folder : ".", O_RDONLY | O_DIRECTORY | O_CLOEXEC);
+    if (file < 0) return -1;
+    int done = fsync(file), error = errno;
+    close(file);
+    errno = error;
+    return done;
+}
+
+static void remove_keeping_errno(const char *name)
+{
+    int error = errno;
+    unlink(name);
+    errno = error;
+}
+
+static int replace_container(const char *container, const uint8_t *image, size_t size)
+{
+    char new_name[PATH_MAX];
+    if (name_beside(container, ".new", new_name) < 0) return failed(container);
+    int lock = lock_container(container, LOCK_EX);
+    if (lock < 0) return failed(container);
+    int replaced = write_to_disk(new_name, image, size);
+    if (replaced == 0) replaced = rename(new_name, container);
+    if (replaced < 0) remove_keeping_errno(new_name);
+    unlock_container(lock);
+    if (replaced == 0) replaced = folder_to_disk(container);
+    return replaced == 0 ? 0 : failed(container);
 }
 
 int main(int words, char **word)
@@ -98,7 +139,7 @@ int main(int words, char **word)
 
     plq_answer sealed = plq_image_of_parents(parents, count, image, sizeof image);
     if (sealed.code != PLQ_DONE) return refused(diary, sealed);
-    size_t size = (size_t)PLQ_BLOCK_BYTES * image[12]; /* the image's own number of blocks */
-    if (words > 2) return write_container(word[2], image, size);
+    size_t size = PLQ_IMAGE_BYTES(sealed.first, sealed.second);
+    if (words > 2) return replace_container(word[2], image, size);
     return write_all(STDOUT_FILENO, image, size) < 0 ? failed("standard output") : 0;
 }

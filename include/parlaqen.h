@@ -5,8 +5,11 @@
  *
  * Every call takes whatever bytes and numbers it is handed, ends, and answers by value. A refused call changes no byte
  * of any buffer lent to it; a call that is done leaves what lies after its result as it was. A list is a pointer and
- * then its number of elements. Lists lent to one call do not overlap; an empty one may come with any pointer. Nothing
- * is kept between calls and nothing is allocated, so calls on different buffers may run at the same time.
+ * then its number of elements. Lists lent to one call do not overlap; an empty one may come with any pointer, NULL too.
+ * Bytes may lie anywhere, numbers as C wants them aligned. Nothing is kept between calls and nothing is allocated:
+ * calls may run at the same time, on one image too, as long as none of them writes where another reads or writes.
+ *
+ * docs/INTEGRATE.md has the sizes of buffers, the stack that a call takes, and where the data of a node live.
  */
 #ifndef PARLAQEN_H
 #define PARLAQEN_H
@@ -14,9 +17,23 @@
 #include <stddef.h>
 #include <stdint.h>
 
+#define PLQ_VERSION_MAJOR 0
+#define PLQ_VERSION_MINOR 2
+#define PLQ_VERSION_PATCH 0
+#define PLQ_VERSION_STRING "0.2.0"
+
 /* The library's sizes have 64 bits on every machine. A call with shorter ones would hand it lists of other lengths. */
 #if SIZE_MAX != 0xFFFFFFFFFFFFFFFFu
 #error "parlaqen: a size must have 64 bits, as in the library; else a call would answer 'done' and do nothing"
+#endif
+
+/* An answer that nobody looks at may be a refusal, so compilers that can warn of it do. */
+#if defined(__GNUC__)
+#define PLQ_MUST_USE __attribute__((warn_unused_result))
+#elif (defined(__cplusplus) && __cplusplus >= 201703L) || (defined(__STDC_VERSION__) && __STDC_VERSION__ >= 202311L)
+#define PLQ_MUST_USE [[nodiscard]]
+#else
+#define PLQ_MUST_USE
 #endif
 
 #ifdef __cplusplus
@@ -63,51 +80,145 @@ enum {
     PLQ_MOST_IMAGE_BYTES = 27136
 };
 
-/* code is one of enum plq_code. On PLQ_DONE the two counts are as each call says below, on a refusal they are 0. */
+/* Sizes of buffers, for n from 1 to PLQ_MOST_NODES and m from 1 to n. Each is of type size_t, and a constant expression
+ * if its arguments are. An argument may be evaluated more than once.
+ *
+ * PLQ_IMAGE_BYTES(n, m)    bytes of the image of a tree, by the two counts of sealing and of the check
+ * PLQ_IMAGE_ROOM(n)        bytes that are enough for the image of any tree of n nodes
+ * PLQ_STRING_BITS(n)       bits of a tree string
+ * PLQ_STRING_BYTES(n)      bytes of a tree string
+ * PLQ_BYTES_OF_BITS(bits)  bytes that so many bits of a string or a pack take
+ * PLQ_LISTING_NUMBERS(n)   numbers of a listing of n nodes */
+#define PLQ_IMAGE_BYTES(n, m)                                                                                          \
+    (PLQ_BLOCK_BYTES * (1 + PLQ_SHARES_(n, 4000) + PLQ_SHARES_(PLQ_SIZE_(n) + 1, 4000) +                               \
+                        2 * PLQ_SHARES_(PLQ_SHARES_(m, 64), 126)))
+#define PLQ_IMAGE_ROOM(n) PLQ_IMAGE_BYTES(n, n)
+#define PLQ_STRING_BITS(n) (2 * PLQ_SIZE_(n) + 1)
+#define PLQ_STRING_BYTES(n) PLQ_BYTES_OF_BITS(PLQ_STRING_BITS(n))
+#define PLQ_BYTES_OF_BITS(bits) PLQ_SHARES_(bits, 8)
+#define PLQ_LISTING_NUMBERS(n) (2 * PLQ_SIZE_(n))
+
+/* For the sizes above alone: how many shares of `share` each are needed for `all`; and a number as a size. */
+#define PLQ_SHARES_(all, share) (PLQ_SIZE_(all) / (share) + (PLQ_SIZE_(all) % (share) != 0))
+#ifdef __cplusplus
+#define PLQ_SIZE_(number) (static_cast<size_t>(number))
+#else
+#define PLQ_SIZE_(number) ((size_t)(number))
+#endif
+
+/* `code` is one of enum plq_code. On a refusal both counts are 0, on PLQ_DONE they are:
+ *
+ *   call                     first                      second
+ *   plq_string_of_parents    bits of the string         1
+ *   plq_parents_of_string    n, the number of nodes     0
+ *   plq_image_of_parents     n                          m, one more than there are nodes with children
+ *   plq_parents_of_image     n                          0
+ *   plq_check_image          n                          m
+ *   plq_ask                  questions answered         0
+ *   plq_split                bits of the pack           trees
+ *   plq_join                 bits of the pack, new      trees, new
+ *   plq_list                 nodes listed               0 */
 typedef struct {
     uint32_t code, place, first, second;
 } plq_answer;
 
-/* Parents to the tree string: 2n + 1 bits, most significant bit first, in n / 4 + 1 bytes.
- * Counts: bits and 1. Refusals: 2, 3, 1. */
-plq_answer plq_string_of_parents(const uint32_t *parents, size_t n, uint8_t *bytes, size_t room);
+/* Parents to the tree string: PLQ_STRING_BITS(n) bits, most significant bit first, in PLQ_STRING_BYTES(n) bytes.
+ * Refusals: PLQ_WRONG_SIZE, PLQ_NOT_PARENTS, PLQ_NO_ROOM. */
+PLQ_MUST_USE plq_answer plq_string_of_parents(const uint32_t *parents, size_t n, uint8_t *bytes, size_t room);
 
-/* A tree string of `bits` bits, in exactly as many bytes as they take, back to its parents.
- * Counts: n and 0. Refusals: 2, 5, 4, 1. */
-plq_answer plq_parents_of_string(const uint8_t *bytes, size_t nbytes, size_t bits, uint32_t *parents, size_t room);
+/* A tree string of `bits` bits, in exactly PLQ_BYTES_OF_BITS(bits) bytes, back to its parents.
+ * Refusals: PLQ_WRONG_SIZE, PLQ_LEFTOVER_SET, PLQ_NOT_STRING, PLQ_NO_ROOM. */
+PLQ_MUST_USE plq_answer plq_parents_of_string(const uint8_t *bytes, size_t nbytes, size_t bits, uint32_t *parents,
+                                              size_t room);
 
-/* Parents to the sealed image: 5 to 53 blocks of 512 bytes. Word 3 of the image (bytes 12 to 15, little-endian) then has
- * the number of blocks.
- * Counts: n, and m, which is one more than there are nodes with children. Refusals: 2, 3, 1. */
-plq_answer plq_image_of_parents(const uint32_t *parents, size_t n, uint8_t *image, size_t room);
+/* Parents to the sealed image, which PLQ_IMAGE_ROOM(n) bytes are enough for. It then has
+ * PLQ_IMAGE_BYTES(first, second) of them: 5 to 53 blocks of PLQ_BLOCK_BYTES.
+ * Refusals: PLQ_WRONG_SIZE, PLQ_NOT_PARENTS, PLQ_NO_ROOM. */
+PLQ_MUST_USE plq_answer plq_image_of_parents(const uint32_t *parents, size_t n, uint8_t *image, size_t room);
 
 /* A sealed image, after the whole check, back to its parents.
- * Counts: n and 0. Refusals: 2, 6, 7, 1. */
-plq_answer plq_parents_of_image(const uint8_t *image, size_t nbytes, uint32_t *parents, size_t room);
+ * Refusals: PLQ_WRONG_SIZE, PLQ_WRONG_SUMS, PLQ_NOT_IMAGE, PLQ_NO_ROOM. */
+PLQ_MUST_USE plq_answer plq_parents_of_image(const uint8_t *image, size_t nbytes, uint32_t *parents, size_t room);
 
 /* The whole check: done exactly if some tree of 1 to 65,535 nodes gives these bytes.
- * Counts: n and m. Refusals: 2, 6, 7. */
-plq_answer plq_check_image(const uint8_t *image, size_t nbytes);
+ * Refusals: PLQ_WRONG_SIZE, PLQ_WRONG_SUMS, PLQ_NOT_IMAGE. */
+PLQ_MUST_USE plq_answer plq_check_image(const uint8_t *image, size_t nbytes);
 
 /* After the whole check, one answer to each of 0 to 256 questions. A question is three numbers: kind, node, argument.
+ * `numbers` counts those and not questions; plq_ask_questions, below, counts questions.
  * PLQ_CHILD_NUMBER and PLQ_SIBLING_AT take any argument, the other kinds take 0.
- * Counts: questions answered and 0. Refusals: 2, 6, 7, 8, 1. */
-plq_answer plq_ask(const uint8_t *image, size_t nbytes, const int32_t *questions, size_t numbers, uint32_t *answers,
-                   size_t room);
+ * Refusals: PLQ_WRONG_SIZE, PLQ_WRONG_SUMS, PLQ_NOT_IMAGE, PLQ_NOT_ALLOWED, PLQ_NO_ROOM. */
+PLQ_MUST_USE plq_answer plq_ask(const uint8_t *image, size_t nbytes, const int32_t *questions, size_t numbers,
+                                uint32_t *answers, size_t room);
 
-/* A pack, which is `trees` strings end to end, in exactly as many bytes as its `bits` bits take: for each tree its
- * first bit, from 1, and its number of nodes. Its string is the 2 * size + 1 bits from there.
- * Counts: bits and trees. Refusals: 2, 5, 4, 10, 1. */
-plq_answer plq_split(const uint8_t *bytes, size_t nbytes, size_t bits, size_t trees, uint32_t *starts,
-                     size_t starts_room, uint32_t *sizes, size_t sizes_room);
+/* A pack, which is `trees` strings end to end, in exactly PLQ_BYTES_OF_BITS(bits) bytes: for each tree its first bit,
+ * from 1, and its number of nodes. Its string is the PLQ_STRING_BITS(size) bits from there.
+ * Refusals: PLQ_WRONG_SIZE, PLQ_LEFTOVER_SET, PLQ_NOT_STRING, PLQ_OTHER_TREES, PLQ_NO_ROOM. */
+PLQ_MUST_USE plq_answer plq_split(const uint8_t *bytes, size_t nbytes, size_t bits, size_t trees, uint32_t *starts,
+                                  size_t starts_room, uint32_t *sizes, size_t sizes_room);
 
 /* Adds one tree, given by its parents, after a pack in a buffer that may be longer than the pack. Earlier bits stay,
- * and so do the bytes after the new last one. Counts: the new bits, and trees + 1. Refusals: 2, 5, 4, 10, 3, 1. */
-plq_answer plq_join(uint8_t *pack, size_t nbytes, size_t bits, size_t trees, const uint32_t *parents, size_t n);
+ * and so do the bytes after the new last one.
+ * Refusals: PLQ_WRONG_SIZE, PLQ_LEFTOVER_SET, PLQ_NOT_STRING, PLQ_OTHER_TREES, PLQ_NOT_PARENTS, PLQ_NO_ROOM. */
+PLQ_MUST_USE plq_answer plq_join(uint8_t *pack, size_t nbytes, size_t bits, size_t trees, const uint32_t *parents,
+                                 size_t n);
 
 /* After the whole check, node and depth, two numbers each, for `node` and everything below it: parents first, children
- * in order, depth 0 at `node`. Counts: nodes listed and 0. Refusals: 2, 6, 7, 8, 9, 1. */
-plq_answer plq_list(const uint8_t *image, size_t nbytes, uint32_t node, uint32_t *pairs, size_t room);
+ * in order, depth 0 at `node`. PLQ_LISTING_NUMBERS(n) are enough for any node of a tree of n.
+ * Refusals: PLQ_WRONG_SIZE, PLQ_WRONG_SUMS, PLQ_NOT_IMAGE, PLQ_NOT_ALLOWED, PLQ_TOO_DEEP, PLQ_NO_ROOM. */
+PLQ_MUST_USE plq_answer plq_list(const uint8_t *image, size_t nbytes, uint32_t node, uint32_t *pairs, size_t room);
+
+/* The rest is no part of the archive: it is compiled with the caller. */
+
+/* A question as plq_ask_questions takes it; `kind` is one of enum plq_kind. */
+typedef struct {
+    int32_t kind, node, argument;
+} plq_question;
+
+/* plq_ask, with `count` questions in the place of three times as many numbers. */
+PLQ_MUST_USE static inline plq_answer plq_ask_questions(const uint8_t *image, size_t nbytes,
+                                                        const plq_question *questions, size_t count, uint32_t *answers,
+                                                        size_t room)
+{
+    /* to the library one too many is too many, and three times that does not wrap */
+    size_t counted = count <= PLQ_MOST_QUESTIONS ? count : PLQ_MOST_QUESTIONS + 1;
+    const void *numbers = questions;
+#ifdef __cplusplus
+    return plq_ask(image, nbytes, static_cast<const int32_t *>(numbers), 3 * counted, answers, room);
+#else
+    return plq_ask(image, nbytes, numbers, 3 * counted, answers, room);
+#endif
+}
+
+/* The bytes of an image by word 3 of its header, its number of blocks; reads the first 16 bytes. Of an image that was
+ * sealed or checked this is PLQ_IMAGE_BYTES(n, m). Of other bytes it is what they say, up to 2^41 - 512. */
+PLQ_MUST_USE static inline size_t plq_image_bytes(const uint8_t *image)
+{
+    size_t blocks = 0;
+    for (int byte = 15; byte >= 12; byte--) blocks = 256 * blocks + image[byte];
+    return PLQ_BLOCK_BYTES * blocks;
+}
+
+/* A code in words, for people: what is wrong, and what the place is where there is one. */
+PLQ_MUST_USE static inline const char *plq_code_text(uint32_t code)
+{
+    switch (code) {
+    case PLQ_DONE: return "done";
+    case PLQ_WRONG_SIZE: return "a count, a length or a number of blocks is outside its limits";
+    case PLQ_WRONG_SUMS: return "a block of the image is damaged; the place is the lowest such block, from 0";
+    case PLQ_NOT_IMAGE: return "no block is damaged, but no tree gives this image";
+    case PLQ_LEFTOVER_SET: return "a bit after the last one, in the same byte, is set";
+    case PLQ_NOT_STRING: return "no tree string has these bits; the place is the first bit, from 1, that no string has "
+                                "there, or one more than there are bits";
+    case PLQ_OTHER_TREES: return "the pack has another number of trees; the place is the number found";
+    case PLQ_NOT_PARENTS: return "no parent list has these numbers; the place is the lowest such entry, from 1";
+    case PLQ_NOT_ALLOWED: return "a kind, node or argument is not allowed; the place is the lowest such question, "
+                                 "from 1";
+    case PLQ_TOO_DEEP: return "the listing would go below depth 63; the place is its first node at depth 64";
+    case PLQ_NO_ROOM: return "an output has too little room";
+    default: return "a code that this header does not know";
+    }
+}
 
 #ifdef __cplusplus
 }

@@ -1240,12 +1240,31 @@ fn rows_of_calls(both: &mut Both, header: &str) -> Vec<Vec<String>> {
         let name = call.name();
         let declared = header.find(&format!("plq_answer {name}(")).expect("declared");
         let comment = &header[header[..declared].rfind("Refusals: ").expect("said before it")..declared];
-        let codes = comment["Refusals: ".len()..].split('.').next().expect("up to the full stop").to_string();
+        let names = comment["Refusals: ".len()..].split('.').next().expect("up to the full stop").split(", ");
+        let codes: Vec<String> = names.map(|name| constant(header, name).to_string()).collect();
         let answer = both.run(call).0;
         assert_eq!(answer, Answer { code: 0, place: 0, first: first.1, second: second.1 }, "{name}");
-        row![name, codes, first.0, second.0]
+        assert_eq!(counts_in_header(header, name), [first.0, second.0], "the header's counts of {name}");
+        row![name, codes.join(", "), first.0, second.0]
     });
     rows.to_vec()
+}
+
+/// What the two counts of a call are by the header's table of them, in the words of docs/FORMAT.md.
+fn counts_in_header<'h>(header: &'h str, name: &str) -> Vec<&'h str> {
+    let row = header.lines().find_map(|line| line.strip_prefix(&format!(" *   {name} ")));
+    let cells = row.unwrap_or_else(|| panic!("no row for {name}")).trim_end_matches("*/").split("  ");
+    let words = cells.map(str::trim).filter(|cell| !cell.is_empty()).map(|cell| match cell {
+        "bits of the string" | "bits of the pack" => "L",
+        "bits of the pack, new" => "new L",
+        "n, the number of nodes" => "n",
+        "m, one more than there are nodes with children" => "m",
+        "questions answered" => "questions",
+        "trees" => "k",
+        "trees, new" => "k + 1",
+        other => other,
+    });
+    words.collect()
 }
 
 fn tables_of_damage(both: &mut Both) -> Tables {

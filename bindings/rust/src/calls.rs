@@ -1,16 +1,22 @@
-use crate::sys::{self, Answer};
-use crate::{Error, Result};
+use crate::error::Handed;
+use crate::{size, sys, Error, Result};
 
 /// The two counts of a call that was not refused.
-fn counts(answer: Answer) -> Result<(u32, u32)> {
+pub(crate) fn counts(answer: sys::Answer, handed: Handed) -> Result<(u32, u32)> {
     match answer.code {
         0 => Ok((answer.first, answer.second)),
-        code => Err(Error::new(code, answer.place)),
+        code => Err(Error::new(code, answer.place, handed)),
     }
 }
 
 /// What sealing and the check count in a tree.
-#[derive(Clone, Copy, Debug, PartialEq, Eq)]
+///
+/// ```
+/// let counts = parlaqen::image_of_parents(&[0, 1, 1, 1, 2, 2, 4], &mut [0; 4_096])?;
+/// assert_eq!((counts.nodes, counts.runs), (7, 4));
+/// # Ok::<(), parlaqen::Error>(())
+/// ```
+#[derive(Clone, Copy, Debug, PartialEq, Eq, Hash)]
 pub struct Counts {
     /// The number of nodes.
     pub nodes: u32,
@@ -18,101 +24,157 @@ pub struct Counts {
     pub runs: u32,
 }
 
-fn counts_of_tree(answer: Answer) -> Result<Counts> {
-    counts(answer).map(|(nodes, runs)| Counts { nodes, runs })
+impl Counts {
+    /// The bytes of the image of a tree with these counts.
+    ///
+    /// ```
+    /// assert_eq!(parlaqen::Counts { nodes: 7, runs: 4 }.image_bytes(), 5 * parlaqen::BLOCK_BYTES);
+    /// ```
+    #[must_use]
+    pub const fn image_bytes(self) -> usize {
+        size::image_bytes(self.nodes as usize, self.runs as usize)
+    }
 }
 
-/// Writes the tree string of a parent list into `bytes` and gives its number of bits, 2n + 1 for n nodes.
+fn counts_of_tree(answer: sys::Answer, handed: Handed) -> Result<Counts> {
+    counts(answer, handed).map(|(nodes, runs)| Counts { nodes, runs })
+}
+
+/// Writes the tree string of a parent list into `bytes` and gives its number of bits.
 ///
-/// It takes n / 4 + 1 bytes; what lies after them in `bytes` stays.
-/// [`TreeString::of_parents`](crate::TreeString::of_parents) makes the room itself.
+/// It takes [`size::string_bytes`] bytes; what lies after them in `bytes` stays. `TreeString::of_parents` makes the
+/// room itself.
 ///
 /// ```
 /// let mut bytes = [0xFF; 4];
 /// assert_eq!(parlaqen::string_of_parents(&[0, 1, 1, 1, 2, 2, 4], &mut bytes), Ok(15));
 /// assert_eq!(bytes, [0b1011_1011, 0b0010_0000, 0xFF, 0xFF]);
 /// ```
+///
+/// # Errors
+///
+/// [`Error::WrongSize`], [`Error::NotParents`], [`Error::NoRoom`].
 pub fn string_of_parents(parents: &[u32], bytes: &mut [u8]) -> Result<usize> {
-    counts(sys::string_of_parents(parents, bytes)).map(|(bits, _)| bits as usize)
+    let handed = Handed::Parents { nodes: parents.len() };
+    counts(sys::string_of_parents(parents, bytes), handed).map(|(bits, _)| bits as usize)
 }
 
 /// Reads a tree string of `bits` bits, in exactly as many bytes as they take, writes its parent list into `parents` and
 /// gives the number of nodes.
+///
+/// `TreeString` makes the room itself.
 ///
 /// ```
 /// let mut parents = [99; 8];
 /// assert_eq!(parlaqen::parents_of_string(&[0b1011_1011, 0b0010_0000], 15, &mut parents), Ok(7));
 /// assert_eq!(parents, [0, 1, 1, 1, 2, 2, 4, 99]);
 /// ```
+///
+/// # Errors
+///
+/// [`Error::WrongSize`], [`Error::LeftoverSet`], [`Error::NotString`], [`Error::EndsTooEarly`], [`Error::NoRoom`].
 pub fn parents_of_string(bytes: &[u8], bits: usize, parents: &mut [u32]) -> Result<usize> {
-    counts(sys::parents_of_string(bytes, bits, parents)).map(|(nodes, _)| nodes as usize)
+    let handed = Handed::String { bytes: bytes.len(), bits };
+    counts(sys::parents_of_string(bytes, bits, parents), handed).map(|(nodes, _)| nodes as usize)
 }
 
 /// Writes the sealed image of a parent list into `image`.
 ///
-/// [`MOST_IMAGE_BYTES`](crate::MOST_IMAGE_BYTES) are always enough; how many blocks of
-/// [`BLOCK_BYTES`](crate::BLOCK_BYTES) were written is then word 3 of the image: bytes 12 to 15, little-endian.
-/// [`seal`](crate::seal) makes the room itself.
+/// [`size::image_room`] bytes are always enough. The image then has [`Counts::image_bytes`] of them; what lies after
+/// them in `image` stays. [`Image::seal_in`](crate::Image::seal_in) gives an image of just these bytes, and `seal`
+/// makes the room itself.
 ///
 /// ```
-/// use parlaqen::{image_of_parents, Counts, BLOCK_BYTES};
+/// use parlaqen::{check_image, image_of_parents, size};
 ///
-/// let mut image = [0; 8 * BLOCK_BYTES];
-/// assert_eq!(image_of_parents(&[0, 1, 1, 1, 2, 2, 4], &mut image), Ok(Counts { nodes: 7, runs: 4 }));
-/// assert_eq!(image[12], 5);
+/// let mut room = [0; size::image_room(7)];
+/// let counts = image_of_parents(&[0, 1, 1, 1, 2, 2, 4], &mut room)?;
+/// assert_eq!(check_image(&room[..counts.image_bytes()]), Ok(counts));
+/// # Ok::<(), parlaqen::Error>(())
 /// ```
+///
+/// # Errors
+///
+/// [`Error::WrongSize`], [`Error::NotParents`], [`Error::NoRoom`].
 pub fn image_of_parents(parents: &[u32], image: &mut [u8]) -> Result<Counts> {
-    counts_of_tree(sys::image_of_parents(parents, image))
+    let handed = Handed::Parents { nodes: parents.len() };
+    counts_of_tree(sys::image_of_parents(parents, image), handed)
 }
 
 /// Makes the whole check of an image, writes its parent list into `parents` and gives the number of nodes.
 ///
+/// `Image::parents` makes the room itself.
+///
 /// ```
-/// let image = parlaqen::seal(&[0, 1, 1, 1, 2, 2, 4])?;
+/// use parlaqen::{parents_of_image, size, Image};
+///
+/// let mut room = [0; size::image_room(7)];
+/// let image = Image::seal_in(&[0, 1, 1, 1, 2, 2, 4], &mut room)?;
 /// let mut parents = [99; 8];
-/// assert_eq!(parlaqen::parents_of_image(&image, &mut parents)?, 7);
+/// assert_eq!(parents_of_image(image.as_bytes(), &mut parents)?, 7);
 /// assert_eq!(parents, [0, 1, 1, 1, 2, 2, 4, 99]);
 /// # Ok::<(), parlaqen::Error>(())
 /// ```
+///
+/// # Errors
+///
+/// [`Error::WrongSize`], [`Error::WrongSums`], [`Error::NotImage`], [`Error::NoRoom`].
 pub fn parents_of_image(image: &[u8], parents: &mut [u32]) -> Result<usize> {
-    counts(sys::parents_of_image(image, parents)).map(|(nodes, _)| nodes as usize)
+    let handed = Handed::Image { bytes: image.len() };
+    counts(sys::parents_of_image(image, parents), handed).map(|(nodes, _)| nodes as usize)
 }
 
 /// Makes the whole check: accepts exactly the bytes that some tree of 1 to 65,535 nodes gives.
 ///
-/// ```
-/// use parlaqen::{check_image, seal, Counts, Error};
+/// [`Image::check`](crate::Image::check) keeps the bytes that were checked.
 ///
-/// let mut image = seal(&[0, 1, 1, 1, 2, 2, 4])?;
+/// ```
+/// use parlaqen::{check_image, image_of_parents, Counts, Error, BLOCK_BYTES};
+///
+/// let mut image = [0; 5 * BLOCK_BYTES];
+/// image_of_parents(&[0, 1, 1, 1, 2, 2, 4], &mut image)?;
 /// assert_eq!(check_image(&image), Ok(Counts { nodes: 7, runs: 4 }));
-/// image[3 * 512 + 77] ^= 0x20;
+/// image[3 * BLOCK_BYTES + 77] ^= 0x20;
 /// assert_eq!(check_image(&image), Err(Error::WrongSums { block: 3 }));
 /// # Ok::<(), parlaqen::Error>(())
 /// ```
+///
+/// # Errors
+///
+/// [`Error::WrongSize`], [`Error::WrongSums`], [`Error::NotImage`].
 pub fn check_image(image: &[u8]) -> Result<Counts> {
-    counts_of_tree(sys::check_image(image))
+    let handed = Handed::Image { bytes: image.len() };
+    counts_of_tree(sys::check_image(image), handed)
 }
 
 /// Makes the whole check of an image, answers up to 256 questions and gives their number.
 ///
 /// A question is three numbers: kind, node, argument, as [`Question::numbers`](crate::Question::numbers) gives them.
-/// [`Image::ask`](crate::Image::ask) takes questions as such and makes the room itself.
+/// [`Image::ask_into`](crate::Image::ask_into) takes questions as such, and `Image::ask` makes the room itself.
 ///
 /// ```
-/// let image = parlaqen::seal(&[0, 1, 1, 1, 2, 2, 4])?;
+/// use parlaqen::{ask, size, Image};
+///
+/// let mut room = [0; size::image_room(7)];
+/// let image = Image::seal_in(&[0, 1, 1, 1, 2, 2, 4], &mut room)?;
 /// let mut answers = [0; 2];
-/// assert_eq!(parlaqen::ask(&image, &[1, 7, 0, 8, 2, 2], &mut answers)?, 2);
+/// assert_eq!(ask(image.as_bytes(), &[1, 7, 0, 8, 2, 2], &mut answers)?, 2);
 /// assert_eq!(answers, [4, 6]); // the parent of node 7, the second child of node 2
 /// # Ok::<(), parlaqen::Error>(())
 /// ```
+///
+/// # Errors
+///
+/// [`Error::WrongSize`], [`Error::WrongSums`], [`Error::NotImage`], [`Error::NotAllowed`], [`Error::NoRoom`].
 pub fn ask(image: &[u8], questions: &[i32], answers: &mut [u32]) -> Result<usize> {
-    counts(sys::ask(image, questions, answers)).map(|(answered, _)| answered as usize)
+    let handed = Handed::ImageAndQuestions { bytes: image.len(), numbers: questions.len() };
+    counts(sys::ask(image, questions, answers), handed).map(|(answered, _)| answered as usize)
 }
 
 /// Splits a pack, which is `trees` tree strings end to end, in exactly as many bytes as its `bits` bits take: writes
 /// the first bit of each tree, from 1, into `starts` and its number of nodes into `sizes`.
 ///
-/// [`Pack`](crate::Pack) makes the room itself and reads the trees back.
+/// `Pack` makes the room itself and reads the trees back.
 ///
 /// ```
 /// let (mut starts, mut sizes) = ([0; 2], [0; 2]);
@@ -120,12 +182,20 @@ pub fn ask(image: &[u8], questions: &[i32], answers: &mut [u32]) -> Result<usize
 /// assert_eq!((starts, sizes), ([1, 4], [1, 1]));
 /// # Ok::<(), parlaqen::Error>(())
 /// ```
+///
+/// # Errors
+///
+/// [`Error::WrongSize`], [`Error::LeftoverSet`], [`Error::NotString`], [`Error::EndsTooEarly`], [`Error::OtherTrees`],
+/// [`Error::NoRoom`].
 pub fn split(bytes: &[u8], bits: usize, trees: usize, starts: &mut [u32], sizes: &mut [u32]) -> Result<()> {
-    counts(sys::split(bytes, bits, trees, starts, sizes)).map(|_| ())
+    let handed = Handed::Pack { bytes: bytes.len(), bits, trees };
+    counts(sys::split(bytes, bits, trees, starts, sizes), handed).map(|_| ())
 }
 
 /// Adds the tree of a parent list after a pack, in a buffer that may be longer than the pack, and gives the new number
 /// of bits. There are `trees + 1` trees then.
+///
+/// `Pack` makes the room itself.
 ///
 /// ```
 /// let mut pack = [0; 4];
@@ -134,22 +204,38 @@ pub fn split(bytes: &[u8], bits: usize, trees: usize, starts: &mut [u32], sizes:
 /// assert_eq!((bits, pack), (8, [0b1001_0100, 0, 0, 0]));
 /// # Ok::<(), parlaqen::Error>(())
 /// ```
+///
+/// # Errors
+///
+/// [`Error::WrongSize`], [`Error::LeftoverSet`], [`Error::NotString`], [`Error::EndsTooEarly`], [`Error::OtherTrees`],
+/// [`Error::NotParents`], [`Error::NoRoom`].
 pub fn join(pack: &mut [u8], bits: usize, trees: usize, parents: &[u32]) -> Result<usize> {
-    counts(sys::join(pack, bits, trees, parents)).map(|(bits, _)| bits as usize)
+    let handed = Handed::PackAndParents { bytes: pack.len(), bits, trees, nodes: parents.len() };
+    counts(sys::join(pack, bits, trees, parents), handed).map(|(bits, _)| bits as usize)
 }
 
 /// Makes the whole check of an image, writes node and depth, two numbers each, for `node` and everything below it into
 /// `pairs`, and gives the number of nodes listed. Parents come first, children in order; the depth of `node` is 0.
 ///
-/// [`Image::list`](crate::Image::list) makes the room itself.
+/// [`size::listing_numbers`] are always enough. [`Image::list_in`](crate::Image::list_in) gives an iterator over them,
+/// and `Image::list` makes the room itself.
 ///
 /// ```
-/// let image = parlaqen::seal(&[0, 1, 1, 1, 2, 2, 4])?;
-/// let mut pairs = [0; 14];
-/// assert_eq!(parlaqen::list(&image, 2, &mut pairs)?, 3);
+/// use parlaqen::{list, size, Image};
+///
+/// let mut room = [0; size::image_room(7)];
+/// let image = Image::seal_in(&[0, 1, 1, 1, 2, 2, 4], &mut room)?;
+/// let mut pairs = [0; size::listing_numbers(7)];
+/// assert_eq!(list(image.as_bytes(), 2, &mut pairs)?, 3);
 /// assert_eq!(pairs[..6], [2, 0, 5, 1, 6, 1]);
 /// # Ok::<(), parlaqen::Error>(())
 /// ```
+///
+/// # Errors
+///
+/// [`Error::WrongSize`], [`Error::WrongSums`], [`Error::NotImage`], [`Error::NoSuchNode`], [`Error::TooDeep`],
+/// [`Error::NoRoom`].
 pub fn list(image: &[u8], node: u32, pairs: &mut [u32]) -> Result<usize> {
-    counts(sys::list(image, node, pairs)).map(|(listed, _)| listed as usize)
+    let handed = Handed::ImageAndNode { bytes: image.len(), node };
+    counts(sys::list(image, node, pairs), handed).map(|(listed, _)| listed as usize)
 }

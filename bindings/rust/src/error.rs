@@ -1,34 +1,51 @@
-use std::fmt;
+use core::fmt;
+
+use crate::{size, BLOCK_BYTES, MOST_BITS, MOST_IMAGE_BYTES, MOST_NODES, MOST_QUESTIONS, MOST_TREES};
+
+/// The blocks of the smallest image and of the largest.
+const LEAST_BLOCKS: usize = size::image_bytes(1, 1) / BLOCK_BYTES;
+const MOST_BLOCKS: usize = MOST_IMAGE_BYTES / BLOCK_BYTES;
+/// The numbers of a question: kind, node, argument.
+pub(crate) const NUMBERS_OF_QUESTION: usize = 3;
 
 /// Why a call was refused, and where. A refused call has changed nothing in any slice lent to it.
 ///
 /// Where several hold, the upper one in the table of the README is given; the order here is that of the codes.
 ///
 /// ```
-/// use parlaqen::{seal, Error};
+/// use parlaqen::{check_image, string_of_parents, Error, Size};
 ///
-/// let refused = seal(&[0, 1, 2, 1]).unwrap_err(); // the fourth node cannot come before the third
+/// // node 4, a child of node 1, comes after a child of node 2
+/// let refused = string_of_parents(&[0, 1, 2, 1], &mut [0; 9]).unwrap_err();
 /// assert_eq!(refused, Error::NotParents { entry: 4 });
 /// assert_eq!((refused.code(), refused.place()), (3, 4));
 /// assert_eq!(refused.to_string(), "entry 4: no parent list has this number here");
+///
+/// let refused = check_image(&[0; 2_559]).unwrap_err();
+/// assert_eq!(refused, Error::WrongSize(Size::ImageBytes { bytes: 2_559 }));
+/// assert_eq!(refused.to_string(), "an image of 2559 bytes, but an image is whole blocks of 512 bytes");
 /// ```
-#[derive(Clone, Copy, Debug, PartialEq, Eq)]
+#[derive(Clone, Copy, Debug, PartialEq, Eq, Hash)]
 #[non_exhaustive]
 pub enum Error {
     /// Code 1: an output has too little room.
     NoRoom,
     /// Code 2: a count, a length or a number of blocks is outside its limits.
-    WrongSize,
+    WrongSize(Size),
     /// Code 3: the numbers are no parent list.
     NotParents {
         /// The lowest offending entry, counted from 1.
         entry: u32,
     },
-    /// Code 4: the bits are no tree string; in a pack, no tree strings end to end.
+    /// Code 4: a bit is wrong, so that the bits are no tree string; in a pack, no tree strings end to end.
     NotString {
-        /// The first bit, counted from 1, up to which the bits begin no tree string; one more than there are bits
-        /// if they only end too early.
+        /// The first bit, counted from 1, up to which the bits begin no tree string.
         bit: u32,
+    },
+    /// Code 4 too: no bit is wrong, but the tree, in a pack the last tree, is not over where the bits end.
+    EndsTooEarly {
+        /// The number of bits; the place of the library is one more, and there is no such bit.
+        bits: u32,
     },
     /// Code 5: a bit after the last one, in the same byte, is set.
     LeftoverSet,
@@ -39,10 +56,15 @@ pub enum Error {
     },
     /// Code 7: no block is damaged, but no tree gives this image.
     NotImage,
-    /// Code 8: the kind, node or argument of a question is not allowed, or there is no such node to list.
+    /// Code 8, of several questions: the kind, node or argument of one is not allowed.
     NotAllowed {
-        /// The lowest such question, counted from 1; 1 for a listing.
+        /// The lowest such question, counted from 1.
         question: u32,
+    },
+    /// Code 8, of a listing or of a question about one node: the tree does not have that node.
+    NoSuchNode {
+        /// The node as it was given.
+        node: u32,
     },
     /// Code 9: the listing would go below depth 63.
     TooDeep {
@@ -63,44 +85,233 @@ pub enum Error {
     },
 }
 
+/// Which size is outside its limits, with its numbers, in an [`Error::WrongSize`].
+///
+/// The library alone decides that a size is wrong. It does not say which, so this is found afterwards from what it was
+/// handed. Where several are wrong, one of them is given.
+///
+/// ```
+/// use parlaqen::{parents_of_string, Error, Size};
+///
+/// let refused = parents_of_string(&[0xBB, 0x20, 0], 15, &mut [0; 7]).unwrap_err();
+/// let size = Size::Bytes { bytes: 3, bits: 15 };
+/// assert_eq!(refused, Error::WrongSize(size));
+/// assert_eq!(size.to_string(), "3 bytes for 15 bits, but they take exactly 2 bytes");
+/// ```
+#[derive(Clone, Copy, Debug, PartialEq, Eq, Hash)]
+#[non_exhaustive]
+pub enum Size {
+    /// A parent list of no numbers, or of more than 65,535.
+    Nodes {
+        /// How many numbers it has.
+        nodes: usize,
+    },
+    /// More bits than 131,071.
+    Bits {
+        /// How many bits were given.
+        bits: usize,
+    },
+    /// Bytes that are more or fewer than the bits take.
+    Bytes {
+        /// How many bytes were given.
+        bytes: usize,
+        /// How many bits were given.
+        bits: usize,
+    },
+    /// Joining: a buffer of fewer bytes than the bits of the pack take.
+    TooFewBytes {
+        /// How many bytes the buffer has.
+        bytes: usize,
+        /// How many bits were given.
+        bits: usize,
+    },
+    /// More trees than 256.
+    Trees {
+        /// How many trees were given.
+        trees: usize,
+    },
+    /// Joining: more trees than 255 in the pack that one more is to be added to.
+    TreesBefore {
+        /// How many trees were given.
+        trees: usize,
+    },
+    /// Joining: the pack would have more bits than 131,071 with the new tree.
+    JoinedBits {
+        /// How many bits it would have.
+        bits: usize,
+    },
+    /// An image that is not of whole blocks of 512 bytes.
+    ImageBytes {
+        /// How many bytes it has.
+        bytes: usize,
+    },
+    /// An image of whole blocks, but not of 5 to 53 of them.
+    ImageBlocks {
+        /// How many blocks it has.
+        blocks: usize,
+    },
+    /// Questions that are not in threes of kind, node and argument.
+    QuestionNumbers {
+        /// How many numbers there are in all.
+        numbers: usize,
+    },
+    /// More questions than 256 in one call.
+    Questions {
+        /// How many questions there are.
+        questions: usize,
+    },
+    /// None of these: the archive that this crate was linked with is of another version, with other limits.
+    Unlisted,
+}
+
+/// What a call was handed, as far as a refusal can be explained from it.
+#[derive(Clone, Copy)]
+pub(crate) enum Handed {
+    Parents { nodes: usize },
+    String { bytes: usize, bits: usize },
+    Pack { bytes: usize, bits: usize, trees: usize },
+    PackAndParents { bytes: usize, bits: usize, trees: usize, nodes: usize },
+    Image { bytes: usize },
+    ImageAndQuestions { bytes: usize, numbers: usize },
+    ImageAndNode { bytes: usize, node: u32 },
+}
+
+impl Handed {
+    /// The first of its sizes that is wrong.
+    fn wrong_size(self) -> Size {
+        let wrong = match self {
+            Self::Parents { nodes } => wrong_nodes(nodes),
+            Self::String { bytes, bits } => wrong_bits(bits).or_else(|| wrong_bytes(bytes, bits)),
+            Self::Pack { bytes, bits, trees } => wrong_bits(bits)
+                .or_else(|| wrong_bytes(bytes, bits))
+                .or_else(|| (trees > MOST_TREES).then_some(Size::Trees { trees })),
+            Self::PackAndParents { bytes, bits, trees, nodes } => wrong_nodes(nodes)
+                .or_else(|| wrong_bits(bits))
+                .or_else(|| (bytes < size::bytes_of_bits(bits)).then_some(Size::TooFewBytes { bytes, bits }))
+                .or_else(|| (trees >= MOST_TREES).then_some(Size::TreesBefore { trees }))
+                .or_else(|| {
+                    let bits = bits + size::string_bits(nodes);
+                    (bits > MOST_BITS).then_some(Size::JoinedBits { bits })
+                }),
+            Self::Image { bytes } | Self::ImageAndNode { bytes, .. } => wrong_image(bytes),
+            Self::ImageAndQuestions { bytes, numbers } => wrong_image(bytes).or_else(|| wrong_questions(numbers)),
+        };
+        wrong.unwrap_or(Size::Unlisted)
+    }
+
+    /// The number of bits, where bits were handed over.
+    fn bits(self) -> Option<usize> {
+        match self {
+            Self::String { bits, .. } | Self::Pack { bits, .. } | Self::PackAndParents { bits, .. } => Some(bits),
+            _ => None,
+        }
+    }
+}
+
+fn wrong_nodes(nodes: usize) -> Option<Size> {
+    (!(1..=MOST_NODES).contains(&nodes)).then_some(Size::Nodes { nodes })
+}
+
+fn wrong_bits(bits: usize) -> Option<Size> {
+    (bits > MOST_BITS).then_some(Size::Bits { bits })
+}
+
+fn wrong_bytes(bytes: usize, bits: usize) -> Option<Size> {
+    (bytes != size::bytes_of_bits(bits)).then_some(Size::Bytes { bytes, bits })
+}
+
+fn wrong_image(bytes: usize) -> Option<Size> {
+    let blocks = bytes / BLOCK_BYTES;
+    if bytes % BLOCK_BYTES != 0 {
+        Some(Size::ImageBytes { bytes })
+    } else {
+        (!(LEAST_BLOCKS..=MOST_BLOCKS).contains(&blocks)).then_some(Size::ImageBlocks { blocks })
+    }
+}
+
+fn wrong_questions(numbers: usize) -> Option<Size> {
+    let questions = numbers / NUMBERS_OF_QUESTION;
+    if numbers % NUMBERS_OF_QUESTION != 0 {
+        Some(Size::QuestionNumbers { numbers })
+    } else {
+        (questions > MOST_QUESTIONS).then_some(Size::Questions { questions })
+    }
+}
+
 impl Error {
-    pub(crate) fn new(code: u32, place: u32) -> Self {
-        match code {
-            1 => Self::NoRoom,
-            2 => Self::WrongSize,
-            3 => Self::NotParents { entry: place },
-            4 => Self::NotString { bit: place },
-            5 => Self::LeftoverSet,
-            6 => Self::WrongSums { block: place },
-            7 => Self::NotImage,
-            8 => Self::NotAllowed { question: place },
-            9 => Self::TooDeep { node: place },
-            10 => Self::OtherTrees { found: place },
+    /// The refusal of the library, in the words of a caller who handed this over.
+    pub(crate) fn new(code: u32, place: u32, handed: Handed) -> Self {
+        match (code, handed) {
+            (1, _) => Self::NoRoom,
+            (2, _) => Self::WrongSize(handed.wrong_size()),
+            (3, _) => Self::NotParents { entry: place },
+            (4, _) => match place.checked_sub(1) {
+                Some(bits) if handed.bits() == Some(bits as usize) => Self::EndsTooEarly { bits },
+                _ => Self::NotString { bit: place },
+            },
+            (5, _) => Self::LeftoverSet,
+            (6, _) => Self::WrongSums { block: place },
+            (7, _) => Self::NotImage,
+            (8, Handed::ImageAndNode { node, .. }) if place == 1 => Self::NoSuchNode { node },
+            (8, _) => Self::NotAllowed { question: place },
+            (9, _) => Self::TooDeep { node: place },
+            (10, _) => Self::OtherTrees { found: place },
             _ => Self::Unlisted { code, place },
         }
     }
 
+    /// The same refusal where so many questions were asked before those that it counts.
+    #[cfg(feature = "alloc")]
+    pub(crate) fn after_questions(self, asked: usize) -> Self {
+        match self {
+            Self::NotAllowed { question } => {
+                let asked = u32::try_from(asked).unwrap_or(u32::MAX);
+                Self::NotAllowed { question: asked.saturating_add(question) }
+            }
+            other => other,
+        }
+    }
+
     /// The library's number for this refusal.
-    pub fn code(self) -> u32 {
+    ///
+    /// ```
+    /// use parlaqen::Error;
+    ///
+    /// assert_eq!(Error::NotString { bit: 7 }.code(), 4);
+    /// assert_eq!(Error::EndsTooEarly { bits: 6 }.code(), 4);
+    /// ```
+    #[must_use]
+    pub const fn code(self) -> u32 {
         match self {
             Self::NoRoom => 1,
-            Self::WrongSize => 2,
+            Self::WrongSize(_) => 2,
             Self::NotParents { .. } => 3,
-            Self::NotString { .. } => 4,
+            Self::NotString { .. } | Self::EndsTooEarly { .. } => 4,
             Self::LeftoverSet => 5,
             Self::WrongSums { .. } => 6,
             Self::NotImage => 7,
-            Self::NotAllowed { .. } => 8,
+            Self::NotAllowed { .. } | Self::NoSuchNode { .. } => 8,
             Self::TooDeep { .. } => 9,
             Self::OtherTrees { .. } => 10,
             Self::Unlisted { code, .. } => code,
         }
     }
 
-    /// The place that came with the code; 0 where it has none.
-    pub fn place(self) -> u32 {
+    /// The library's place for this refusal; 0 where it has none.
+    ///
+    /// ```
+    /// use parlaqen::Error;
+    ///
+    /// assert_eq!(Error::NoRoom.place(), 0);
+    /// assert_eq!(Error::EndsTooEarly { bits: 6 }.place(), 7);
+    /// assert_eq!(Error::NoSuchNode { node: 9 }.place(), 1);
+    /// ```
+    #[must_use]
+    pub const fn place(self) -> u32 {
         match self {
-            Self::NoRoom | Self::WrongSize | Self::LeftoverSet | Self::NotImage => 0,
+            Self::NoRoom | Self::WrongSize(_) | Self::LeftoverSet | Self::NotImage => 0,
+            Self::EndsTooEarly { bits } => bits.saturating_add(1),
+            Self::NoSuchNode { .. } => 1,
             Self::NotParents { entry: place }
             | Self::NotString { bit: place }
             | Self::WrongSums { block: place }
@@ -112,43 +323,164 @@ impl Error {
     }
 }
 
+/// A number of things, in words: `1 byte`, `2 bytes`.
+struct Count(usize, &'static str);
+
+impl fmt::Display for Count {
+    fn fmt(&self, f: &mut fmt::Formatter<'_>) -> fmt::Result {
+        let Self(number, thing) = self;
+        write!(f, "{number} {thing}{}", if *number == 1 { "" } else { "s" })
+    }
+}
+
 impl fmt::Display for Error {
     fn fmt(&self, f: &mut fmt::Formatter<'_>) -> fmt::Result {
-        match self {
+        match *self {
             Self::NoRoom => write!(f, "an output has too little room"),
-            Self::WrongSize => write!(f, "a count, a length or a number of blocks is outside its limits"),
+            Self::WrongSize(size) => size.fmt(f),
             Self::NotParents { entry } => write!(f, "entry {entry}: no parent list has this number here"),
-            Self::NotString { bit } => write!(f, "bit {bit}: no tree string has these bits"),
+            Self::NotString { bit } => write!(f, "bit {bit}: no tree string has these bits up to here"),
+            Self::EndsTooEarly { bits } => write!(f, "after {} the tree is not over", Count(bits as usize, "bit")),
             Self::LeftoverSet => write!(f, "a bit after the last one, in the same byte, is set"),
             Self::WrongSums { block } => write!(f, "block {block} of the image is damaged"),
             Self::NotImage => write!(f, "no block is damaged, but no tree gives this image"),
             Self::NotAllowed { question } => {
                 write!(f, "question {question}: its kind, node or argument is not allowed")
             }
-            Self::TooDeep { node } => write!(f, "node {node} is at depth 64, and a listing ends at depth 63"),
-            Self::OtherTrees { found } => write!(f, "the pack has {found} trees, which is not the number given"),
+            Self::NoSuchNode { node } => write!(f, "the tree has no node {node}"),
+            Self::TooDeep { node } => write!(f, "node {node} is at depth 64, but a listing ends at depth 63"),
+            Self::OtherTrees { found } => {
+                write!(f, "the pack has {}, which is not the number given", Count(found as usize, "tree"))
+            }
             Self::Unlisted { code, place } => write!(f, "code {code}, place {place}, which this crate does not know"),
         }
     }
 }
 
-impl std::error::Error for Error {}
+impl fmt::Display for Size {
+    fn fmt(&self, f: &mut fmt::Formatter<'_>) -> fmt::Result {
+        match *self {
+            Self::Nodes { nodes } => {
+                write!(f, "a parent list of {}, but a tree has 1 to {MOST_NODES} nodes", Count(nodes, "number"))
+            }
+            Self::Bits { bits } => {
+                write!(f, "{}, but a tree string or a pack has at most {MOST_BITS}", Count(bits, "bit"))
+            }
+            Self::Bytes { bytes, bits } => {
+                let taken = Count(size::bytes_of_bits(bits), "byte");
+                write!(f, "{} for {}, but they take exactly {taken}", Count(bytes, "byte"), Count(bits, "bit"))
+            }
+            Self::TooFewBytes { bytes, bits } => {
+                let taken = Count(size::bytes_of_bits(bits), "byte");
+                write!(f, "{} for a pack of {}, but it takes {taken}", Count(bytes, "byte"), Count(bits, "bit"))
+            }
+            Self::Trees { trees } => write!(f, "{}, but a pack has at most {MOST_TREES}", Count(trees, "tree")),
+            Self::TreesBefore { trees } => {
+                write!(f, "one more tree after {trees}, but a pack has at most {MOST_TREES}")
+            }
+            Self::JoinedBits { bits } => {
+                write!(f, "the joined pack would have {}, but a pack has at most {MOST_BITS}", Count(bits, "bit"))
+            }
+            Self::ImageBytes { bytes } => {
+                write!(f, "an image of {}, but an image is whole blocks of {BLOCK_BYTES} bytes", Count(bytes, "byte"))
+            }
+            Self::ImageBlocks { blocks } => {
+                write!(f, "an image of {}, but an image has {LEAST_BLOCKS} to {MOST_BLOCKS}", Count(blocks, "block"))
+            }
+            Self::QuestionNumbers { numbers } => {
+                write!(f, "{}, but each question takes {NUMBERS_OF_QUESTION}", Count(numbers, "number"))
+            }
+            Self::Questions { questions } => {
+                write!(f, "{}, but one call answers at most {MOST_QUESTIONS}", Count(questions, "question"))
+            }
+            Self::Unlisted => write!(f, "a count, a length or a number of blocks is outside its limits"),
+        }
+    }
+}
+
+impl core::error::Error for Error {}
 
 #[cfg(test)]
 mod tests {
-    use super::Error;
+    use std::string::ToString;
+
+    use super::{Error, Handed, Size};
+
+    const HANDED: [Handed; 8] = [
+        Handed::Parents { nodes: 7 },
+        Handed::String { bytes: 2, bits: 15 },
+        Handed::String { bytes: 0, bits: usize::MAX },
+        Handed::Pack { bytes: 2, bits: 65_534, trees: 2 },
+        Handed::PackAndParents { bytes: 2, bits: u32::MAX as usize - 1, trees: 2, nodes: 7 },
+        Handed::Image { bytes: 2_560 },
+        Handed::ImageAndQuestions { bytes: 2_560, numbers: 6 },
+        Handed::ImageAndNode { bytes: 2_560, node: 9 },
+    ];
 
     #[test]
     fn each_code_and_place_comes_back_as_it_came() {
-        for code in 1..30 {
-            let with_place = matches!(code, 3 | 4 | 6 | 8 | 9 | 10..);
-            for place in [0, 1, 65_535, u32::MAX] {
-                let error = Error::new(code, place);
-                assert_eq!(error.code(), code);
-                assert_eq!(error.place(), if with_place { place } else { 0 });
-                assert!(!with_place || error.to_string().contains(&place.to_string()));
-                assert_eq!(matches!(error, Error::Unlisted { .. }), code > 10, "code {code}");
+        for handed in HANDED {
+            for code in 1..30 {
+                let with_place = matches!(code, 3 | 4 | 6 | 8 | 9 | 10..);
+                for place in [0, 1, 16, 65_535, u32::MAX] {
+                    let error = Error::new(code, place, handed);
+                    assert_eq!(error.code(), code);
+                    assert_eq!(error.place(), if with_place { place } else { 0 });
+                    let said = match error {
+                        Error::EndsTooEarly { bits } => bits,
+                        Error::NoSuchNode { node } => node,
+                        _ => place,
+                    };
+                    assert!(!with_place || error.to_string().contains(&said.to_string()));
+                    assert_eq!(matches!(error, Error::Unlisted { .. }), code > 10, "code {code}");
+                }
             }
         }
+    }
+
+    #[test]
+    fn a_place_after_the_last_bit_is_no_bit() {
+        let string = Handed::String { bytes: 2, bits: 15 };
+        assert_eq!(Error::new(4, 15, string), Error::NotString { bit: 15 });
+        assert_eq!(Error::new(4, 16, string), Error::EndsTooEarly { bits: 15 });
+        assert_eq!(Error::new(4, 1, Handed::String { bytes: 0, bits: 0 }), Error::EndsTooEarly { bits: 0 });
+    }
+
+    #[test]
+    fn a_node_is_named_only_where_there_is_one() {
+        let node = Handed::ImageAndNode { bytes: 2_560, node: 9 };
+        assert_eq!(Error::new(8, 1, node), Error::NoSuchNode { node: 9 });
+        let questions = Handed::ImageAndQuestions { bytes: 2_560, numbers: 3 };
+        assert_eq!(Error::new(8, 1, questions), Error::NotAllowed { question: 1 });
+    }
+
+    /// Sizes at their limits are right to this crate. If a library refused them, its limits would be others.
+    #[test]
+    fn a_size_that_is_right_is_not_said_to_be_wrong() {
+        for handed in [
+            Handed::Parents { nodes: 1 },
+            Handed::Parents { nodes: 65_535 },
+            Handed::String { bytes: 0, bits: 0 },
+            Handed::String { bytes: 16_384, bits: 131_071 },
+            Handed::Pack { bytes: 16_384, bits: 131_071, trees: 256 },
+            Handed::PackAndParents { bytes: 1, bits: 3, trees: 255, nodes: 1 },
+            Handed::PackAndParents { bytes: 99_999, bits: 131_068, trees: 0, nodes: 1 },
+            Handed::Image { bytes: 2_560 },
+            Handed::Image { bytes: 27_136 },
+            Handed::ImageAndQuestions { bytes: 2_560, numbers: 0 },
+            Handed::ImageAndQuestions { bytes: 27_136, numbers: 768 },
+            Handed::ImageAndNode { bytes: 2_560, node: 0 },
+        ] {
+            assert_eq!(Error::new(2, 0, handed), Error::WrongSize(Size::Unlisted));
+        }
+    }
+
+    #[cfg(feature = "alloc")]
+    #[test]
+    fn a_question_is_counted_from_the_first_one_asked() {
+        assert_eq!(Error::NotAllowed { question: 3 }.after_questions(512), Error::NotAllowed { question: 515 });
+        let most = Error::NotAllowed { question: u32::MAX };
+        assert_eq!(Error::NotAllowed { question: 3 }.after_questions(usize::MAX), most);
+        assert_eq!(Error::NotImage.after_questions(512), Error::NotImage);
     }
 }

@@ -1,95 +1,607 @@
-use crate::{
-    ask, check_image, image_of_parents, list, parents_of_image, Counts, Question, Result, BLOCK_BYTES, MOST_IMAGE_BYTES,
-};
+#[cfg(feature = "alloc")]
+use alloc::{vec, vec::Vec};
+use core::fmt;
 
-/// The sealed image of a parent list, in as many bytes as it takes.
+use crate::calls::counts;
+use crate::error::{Handed, NUMBERS_OF_QUESTION};
+use crate::{
+    check_image, image_of_parents, list, sys, Answer, Counts, Listing, Node, Nodes, Question, Result, MOST_QUESTIONS,
+};
+#[cfg(feature = "alloc")]
+use crate::{parents_of_image, size, MOST_NODES};
+
+/// The sealed image of a parent list, in as many bytes as it takes. Needs the feature `alloc`.
+///
+/// Without it there is [`Image::seal_in`].
 ///
 /// ```
-/// let image = parlaqen::seal(&[0])?;
-/// assert_eq!(image.len(), 5 * parlaqen::BLOCK_BYTES);
+/// use parlaqen::{seal, Image, BLOCK_BYTES};
+///
+/// struct Screen {
+///     diary: Image<Vec<u8>>,
+/// }
+///
+/// let screen = Screen { diary: seal(&[0, 1, 1, 1, 2, 2, 4])? };
+/// assert_eq!(screen.diary.nodes(), 7);
+/// assert_eq!(screen.diary.into_bytes().len(), 5 * BLOCK_BYTES);
 /// # Ok::<(), parlaqen::Error>(())
 /// ```
-pub fn seal(parents: &[u32]) -> Result<Vec<u8>> {
-    let mut image = vec![0; MOST_IMAGE_BYTES];
-    image_of_parents(parents, &mut image)?;
-    let blocks = usize::from(image[12]);
-    image.truncate(blocks * BLOCK_BYTES);
-    Ok(image)
+///
+/// # Errors
+///
+/// [`Error::WrongSize`](crate::Error::WrongSize), [`Error::NotParents`](crate::Error::NotParents).
+#[cfg(feature = "alloc")]
+pub fn seal(parents: &[u32]) -> Result<Image<Vec<u8>>> {
+    // a list of another length is refused before room matters
+    let mut bytes = vec![0; size::image_room(parents.len().min(MOST_NODES))];
+    let counts = image_of_parents(parents, &mut bytes)?;
+    bytes.truncate(counts.image_bytes());
+    bytes.shrink_to_fit();
+    Ok(Image { bytes, counts })
 }
 
-/// A sealed image that was found to be one.
+/// A sealed image that was found to be one, with the bytes that were checked: owned, as in `Image<Vec<u8>>`, borrowed,
+/// as in `Image<&[u8]>`, or shared, as in `Image<Arc<[u8]>>`.
 ///
-/// It holds the bytes that were checked, which cannot change while it does. Copy the image out of its container, let go
-/// of the lock, then check and ask the copy.
+/// Copy the image out of its container, let go of the lock, then check and ask the copy.
+///
+/// What `bytes.as_ref()` gives must not change between calls, and for every type named here it cannot. If it does, an
+/// answer is a refusal or that of the other bytes, and nothing worse: the library makes the whole check in every call.
+/// So it is also best to ask many questions at once.
+///
+/// A [`Node`] may be of another image, so whatever asks about one can be refused.
 ///
 /// ```
-/// use parlaqen::{seal, Image, Listed, Question};
+/// use parlaqen::{image_of_parents, Error, Image, Node, BLOCK_BYTES};
 ///
-/// let copy = seal(&[0, 1, 1, 1, 2, 2, 4])?;
-/// let image = Image::check(&copy)?;
+/// let mut bytes = [0; 5 * BLOCK_BYTES];
+/// image_of_parents(&[0, 1, 1, 1, 2, 2, 4], &mut bytes)?;
+///
+/// let image = Image::check(bytes)?;
 /// assert_eq!(image.nodes(), 7);
-/// assert_eq!(image.ask(&[Question::FirstChild(2), Question::NextSibling(4)])?, [5, 0]);
-/// assert_eq!(image.list(4)?, [Listed { node: 4, depth: 0 }, Listed { node: 7, depth: 1 }]);
-/// assert_eq!(image.parents()?, [0, 1, 1, 1, 2, 2, 4]);
-/// # Ok::<(), parlaqen::Error>(())
+/// assert_eq!(image.first_child(Node::ROOT)?, Node::new(2));
+/// assert_eq!(image.parent(Node::ROOT)?, None);
+/// assert_eq!(image.parent(Node::try_from(9)?), Err(Error::NoSuchNode { node: 9 }));
+///
+/// bytes[1_000] ^= 1;
+/// assert_eq!(Image::check(&bytes), Err(Error::WrongSums { block: 1 }));
+/// # Ok::<(), Error>(())
 /// ```
-#[derive(Clone, Copy, Debug)]
-pub struct Image<'a> {
-    bytes: &'a [u8],
+#[derive(Clone, Copy, PartialEq, Eq, Hash)]
+pub struct Image<B> {
+    bytes: B,
     counts: Counts,
 }
 
-/// A node of a listing.
-#[derive(Clone, Copy, Debug, PartialEq, Eq)]
-pub struct Listed {
-    /// The node's number.
-    pub node: u32,
-    /// How far it lies below the node that was listed.
-    pub depth: u32,
+impl<'a> Image<&'a [u8]> {
+    /// Seals a parent list into a lent buffer and gives the image over that part of it which was used.
+    ///
+    /// [`size::image_room`](crate::size::image_room) bytes are always enough. What lies after the image stays.
+    ///
+    /// ```
+    /// use parlaqen::{size, Image, BLOCK_BYTES};
+    ///
+    /// let mut room = [0xEE; size::image_room(7) + 1];
+    /// let image = Image::seal_in(&[0, 1, 1, 1, 2, 2, 4], &mut room)?;
+    /// assert_eq!(image.as_bytes().len(), 5 * BLOCK_BYTES);
+    /// assert_eq!(room[5 * BLOCK_BYTES], 0xEE);
+    /// # Ok::<(), parlaqen::Error>(())
+    /// ```
+    ///
+    /// The buffer is borrowed as long as the image is used, so it does not change under it:
+    ///
+    /// ```compile_fail
+    /// # use parlaqen::{size, Image};
+    /// let mut room = [0; size::image_room(1)];
+    /// let image = Image::seal_in(&[0], &mut room)?;
+    /// room[0] = 7;
+    /// assert_eq!(image.nodes(), 1);
+    /// # Ok::<(), parlaqen::Error>(())
+    /// ```
+    ///
+    /// # Errors
+    ///
+    /// [`Error::WrongSize`](crate::Error::WrongSize), [`Error::NotParents`](crate::Error::NotParents),
+    /// [`Error::NoRoom`](crate::Error::NoRoom).
+    pub fn seal_in(parents: &[u32], buffer: &'a mut [u8]) -> Result<Self> {
+        let counts = image_of_parents(parents, buffer)?;
+        Ok(Self { bytes: &buffer[..counts.image_bytes()], counts })
+    }
 }
 
-impl<'a> Image<'a> {
-    /// Makes the whole check.
-    pub fn check(bytes: &'a [u8]) -> Result<Self> {
-        check_image(bytes).map(|counts| Self { bytes, counts })
+impl<B: AsRef<[u8]>> Image<B> {
+    /// Makes the whole check and keeps the bytes. Where it is refused they are dropped, so a caller who still needs
+    /// them lends them.
+    ///
+    /// ```
+    /// use parlaqen::{image_of_parents, Error, Image, Size, BLOCK_BYTES};
+    ///
+    /// let mut bytes = [0; 5 * BLOCK_BYTES];
+    /// image_of_parents(&[0, 1, 1], &mut bytes)?;
+    /// assert_eq!(Image::check(&bytes)?.nodes(), 3);
+    /// let cut_off = Error::WrongSize(Size::ImageBlocks { blocks: 4 });
+    /// assert_eq!(Image::check(&bytes[..4 * BLOCK_BYTES]), Err(cut_off));
+    /// # Ok::<(), Error>(())
+    /// ```
+    ///
+    /// # Errors
+    ///
+    /// [`Error::WrongSize`](crate::Error::WrongSize), [`Error::WrongSums`](crate::Error::WrongSums),
+    /// [`Error::NotImage`](crate::Error::NotImage).
+    pub fn check(bytes: B) -> Result<Self> {
+        let counts = check_image(bytes.as_ref())?;
+        Ok(Self { bytes, counts })
     }
 
     /// The bytes of the image.
-    pub fn bytes(&self) -> &'a [u8] {
+    ///
+    /// ```
+    /// # use parlaqen::{size, Image};
+    /// # let mut room = [0; size::image_room(7)];
+    /// # let image = Image::seal_in(&[0, 1, 1, 1, 2, 2, 4], &mut room)?;
+    /// assert_eq!(image.as_bytes()[..8], [1, 0, 0, 0, 7, 0, 0, 0]); // the version, and the number of nodes
+    /// # Ok::<(), parlaqen::Error>(())
+    /// ```
+    #[must_use]
+    pub fn as_bytes(&self) -> &[u8] {
+        self.bytes.as_ref()
+    }
+
+    /// What the image was made of: its bytes, owned if they were.
+    ///
+    /// ```
+    /// # use parlaqen::{size, Image};
+    /// # let mut room = [0; size::image_room(7)];
+    /// # let image = Image::seal_in(&[0, 1, 1, 1, 2, 2, 4], &mut room)?;
+    /// let bytes: &[u8] = image.into_bytes();
+    /// assert_eq!(bytes.len(), parlaqen::Counts { nodes: 7, runs: 4 }.image_bytes());
+    /// # Ok::<(), parlaqen::Error>(())
+    /// ```
+    #[must_use]
+    pub fn into_bytes(self) -> B {
         self.bytes
     }
 
     /// The number of nodes.
+    ///
+    /// ```
+    /// # use parlaqen::{size, Image};
+    /// # let mut room = [0; size::image_room(7)];
+    /// # let image = Image::seal_in(&[0, 1, 1, 1, 2, 2, 4], &mut room)?;
+    /// assert_eq!(image.nodes(), 7);
+    /// # Ok::<(), parlaqen::Error>(())
+    /// ```
+    #[must_use]
     pub fn nodes(&self) -> u32 {
         self.counts.nodes
     }
 
     /// The number of nodes that have children.
+    ///
+    /// ```
+    /// # use parlaqen::{size, Image};
+    /// # let mut room = [0; size::image_room(7)];
+    /// # let image = Image::seal_in(&[0, 1, 1, 1, 2, 2, 4], &mut room)?;
+    /// assert_eq!(image.nodes_with_children(), 3);
+    /// # Ok::<(), parlaqen::Error>(())
+    /// ```
+    #[must_use]
     pub fn nodes_with_children(&self) -> u32 {
         self.counts.runs - 1
     }
 
-    /// One answer to each of up to 256 questions. Every call of the library makes the whole check again, so it is best
-    /// to ask many questions at once.
-    pub fn ask(&self, questions: &[Question]) -> Result<Vec<u32>> {
-        let numbers: Vec<i32> = questions.iter().flat_map(|asked| asked.numbers()).collect();
-        let mut answers = vec![0; questions.len()];
-        ask(self.bytes, &numbers, &mut answers)?;
+    /// Every node, in level order.
+    ///
+    /// ```
+    /// # use parlaqen::{size, Image, Node};
+    /// # let mut room = [0; size::image_room(7)];
+    /// # let image = Image::seal_in(&[0, 1, 1, 1, 2, 2, 4], &mut room)?;
+    /// assert_eq!(image.all_nodes().len(), 7);
+    /// assert_eq!(image.all_nodes().leftmost(), Some(Node::ROOT));
+    /// # Ok::<(), parlaqen::Error>(())
+    /// ```
+    pub fn all_nodes(&self) -> Nodes {
+        Nodes::between(Some(Node::ROOT), Node::new(self.counts.nodes))
+    }
+
+    /// The parent; none for the root.
+    ///
+    /// ```
+    /// # use parlaqen::{size, Image, Node};
+    /// # let mut room = [0; size::image_room(7)];
+    /// # let image = Image::seal_in(&[0, 1, 1, 1, 2, 2, 4], &mut room)?;
+    /// assert_eq!(image.parent(Node::try_from(7)?)?, Node::new(4));
+    /// assert_eq!(image.parent(Node::ROOT)?, None);
+    /// # Ok::<(), parlaqen::Error>(())
+    /// ```
+    ///
+    /// # Errors
+    ///
+    /// [`Error::NoSuchNode`](crate::Error::NoSuchNode); if the bytes have changed, those of [`Image::check`].
+    pub fn parent(&self, node: Node) -> Result<Option<Node>> {
+        self.node(node, Question::Parent(node))
+    }
+
+    /// The first child; none for a leaf.
+    ///
+    /// ```
+    /// # use parlaqen::{size, Image, Node};
+    /// # let mut room = [0; size::image_room(7)];
+    /// # let image = Image::seal_in(&[0, 1, 1, 1, 2, 2, 4], &mut room)?;
+    /// assert_eq!(image.first_child(Node::try_from(2)?)?, Node::new(5));
+    /// assert_eq!(image.first_child(Node::try_from(3)?)?, None);
+    /// # Ok::<(), parlaqen::Error>(())
+    /// ```
+    ///
+    /// # Errors
+    ///
+    /// [`Error::NoSuchNode`](crate::Error::NoSuchNode); if the bytes have changed, those of [`Image::check`].
+    pub fn first_child(&self, node: Node) -> Result<Option<Node>> {
+        self.node(node, Question::FirstChild(node))
+    }
+
+    /// The last child; none for a leaf.
+    ///
+    /// ```
+    /// # use parlaqen::{size, Image, Node};
+    /// # let mut room = [0; size::image_room(7)];
+    /// # let image = Image::seal_in(&[0, 1, 1, 1, 2, 2, 4], &mut room)?;
+    /// assert_eq!(image.last_child(Node::try_from(2)?)?, Node::new(6));
+    /// assert_eq!(image.last_child(Node::try_from(3)?)?, None);
+    /// # Ok::<(), parlaqen::Error>(())
+    /// ```
+    ///
+    /// # Errors
+    ///
+    /// [`Error::NoSuchNode`](crate::Error::NoSuchNode); if the bytes have changed, those of [`Image::check`].
+    pub fn last_child(&self, node: Node) -> Result<Option<Node>> {
+        self.node(node, Question::LastChild(node))
+    }
+
+    /// The sibling to the right; none for the last of them.
+    ///
+    /// ```
+    /// # use parlaqen::{size, Image, Node};
+    /// # let mut room = [0; size::image_room(7)];
+    /// # let image = Image::seal_in(&[0, 1, 1, 1, 2, 2, 4], &mut room)?;
+    /// assert_eq!(image.next_sibling(Node::try_from(2)?)?, Node::new(3));
+    /// assert_eq!(image.next_sibling(Node::try_from(4)?)?, None);
+    /// # Ok::<(), parlaqen::Error>(())
+    /// ```
+    ///
+    /// # Errors
+    ///
+    /// [`Error::NoSuchNode`](crate::Error::NoSuchNode); if the bytes have changed, those of [`Image::check`].
+    pub fn next_sibling(&self, node: Node) -> Result<Option<Node>> {
+        self.node(node, Question::NextSibling(node))
+    }
+
+    /// The sibling to the left; none for the first of them.
+    ///
+    /// ```
+    /// # use parlaqen::{size, Image, Node};
+    /// # let mut room = [0; size::image_room(7)];
+    /// # let image = Image::seal_in(&[0, 1, 1, 1, 2, 2, 4], &mut room)?;
+    /// assert_eq!(image.previous_sibling(Node::try_from(4)?)?, Node::new(3));
+    /// assert_eq!(image.previous_sibling(Node::try_from(2)?)?, None);
+    /// # Ok::<(), parlaqen::Error>(())
+    /// ```
+    ///
+    /// # Errors
+    ///
+    /// [`Error::NoSuchNode`](crate::Error::NoSuchNode); if the bytes have changed, those of [`Image::check`].
+    pub fn previous_sibling(&self, node: Node) -> Result<Option<Node>> {
+        self.node(node, Question::PreviousSibling(node))
+    }
+
+    /// The number of children.
+    ///
+    /// ```
+    /// # use parlaqen::{size, Image, Node};
+    /// # let mut room = [0; size::image_room(7)];
+    /// # let image = Image::seal_in(&[0, 1, 1, 1, 2, 2, 4], &mut room)?;
+    /// assert_eq!(image.degree(Node::ROOT)?, 3);
+    /// assert_eq!(image.degree(Node::try_from(3)?)?, 0);
+    /// # Ok::<(), parlaqen::Error>(())
+    /// ```
+    ///
+    /// # Errors
+    ///
+    /// [`Error::NoSuchNode`](crate::Error::NoSuchNode); if the bytes have changed, those of [`Image::check`].
+    pub fn degree(&self, node: Node) -> Result<u32> {
+        self.number(node, Question::Degree(node))
+    }
+
+    /// The number of the node among its siblings, from 1, as the library has it; the root's is 1.
+    ///
+    /// For every other node, [`child`](Self::child) of its parent and this number is the node again.
+    ///
+    /// ```
+    /// # use parlaqen::{size, Image, Node};
+    /// # let mut room = [0; size::image_room(7)];
+    /// # let image = Image::seal_in(&[0, 1, 1, 1, 2, 2, 4], &mut room)?;
+    /// assert_eq!(image.child_rank(Node::try_from(6)?)?, 2);
+    /// assert_eq!(image.child_rank(Node::ROOT)?, 1);
+    /// # Ok::<(), parlaqen::Error>(())
+    /// ```
+    ///
+    /// # Errors
+    ///
+    /// [`Error::NoSuchNode`](crate::Error::NoSuchNode); if the bytes have changed, those of [`Image::check`].
+    pub fn child_rank(&self, node: Node) -> Result<u32> {
+        self.number(node, Question::ChildRank(node))
+    }
+
+    /// The child of that number, from 1; none for 0 and where there are not so many children.
+    ///
+    /// ```
+    /// # use parlaqen::{size, Image, Node};
+    /// # let mut room = [0; size::image_room(7)];
+    /// # let image = Image::seal_in(&[0, 1, 1, 1, 2, 2, 4], &mut room)?;
+    /// let node = Node::try_from(2)?;
+    /// assert_eq!(image.child(node, 2)?, Node::new(6));
+    /// assert_eq!((image.child(node, 0)?, image.child(node, 3)?), (None, None));
+    /// # Ok::<(), parlaqen::Error>(())
+    /// ```
+    ///
+    /// # Errors
+    ///
+    /// [`Error::NoSuchNode`](crate::Error::NoSuchNode); if the bytes have changed, those of [`Image::check`].
+    pub fn child(&self, node: Node, number: u32) -> Result<Option<Node>> {
+        self.node(node, Question::ChildNumber { node, number })
+    }
+
+    /// The sibling so many places to the right, to the left where negative; 0 places away is the node itself.
+    ///
+    /// ```
+    /// # use parlaqen::{size, Image, Node};
+    /// # let mut room = [0; size::image_room(7)];
+    /// # let image = Image::seal_in(&[0, 1, 1, 1, 2, 2, 4], &mut room)?;
+    /// let node = Node::try_from(3)?;
+    /// assert_eq!((image.sibling_at(node, -1)?, image.sibling_at(node, 1)?), (Node::new(2), Node::new(4)));
+    /// assert_eq!(image.sibling_at(node, 2)?, None);
+    /// # Ok::<(), parlaqen::Error>(())
+    /// ```
+    ///
+    /// # Errors
+    ///
+    /// [`Error::NoSuchNode`](crate::Error::NoSuchNode); if the bytes have changed, those of [`Image::check`].
+    pub fn sibling_at(&self, node: Node, right: i32) -> Result<Option<Node>> {
+        self.node(node, Question::SiblingAt { node, right })
+    }
+
+    /// Has the node no children?
+    ///
+    /// ```
+    /// # use parlaqen::{size, Image, Node};
+    /// # let mut room = [0; size::image_room(7)];
+    /// # let image = Image::seal_in(&[0, 1, 1, 1, 2, 2, 4], &mut room)?;
+    /// assert!(image.is_leaf(Node::try_from(3)?)?);
+    /// assert!(!image.is_leaf(Node::ROOT)?);
+    /// # Ok::<(), parlaqen::Error>(())
+    /// ```
+    ///
+    /// # Errors
+    ///
+    /// [`Error::NoSuchNode`](crate::Error::NoSuchNode); if the bytes have changed, those of [`Image::check`].
+    pub fn is_leaf(&self, node: Node) -> Result<bool> {
+        Ok(self.number(node, Question::Leaf(node))? != 0)
+    }
+
+    /// The children, from first to last; none for a leaf.
+    ///
+    /// ```
+    /// # use parlaqen::{size, Image, Node};
+    /// # let mut room = [0; size::image_room(7)];
+    /// # let image = Image::seal_in(&[0, 1, 1, 1, 2, 2, 4], &mut room)?;
+    /// let children = image.children(Node::ROOT)?;
+    /// assert!(children.map(Node::get).eq([2, 3, 4]));
+    /// assert!(image.children(Node::try_from(3)?)?.is_empty());
+    /// # Ok::<(), parlaqen::Error>(())
+    /// ```
+    ///
+    /// # Errors
+    ///
+    /// [`Error::NoSuchNode`](crate::Error::NoSuchNode); if the bytes have changed, those of [`Image::check`].
+    pub fn children(&self, node: Node) -> Result<Nodes> {
+        let [first, last] = self.ask_of(node, [Question::FirstChild(node), Question::LastChild(node)])?;
+        Ok(Nodes::between(Node::new(first), Node::new(last)))
+    }
+
+    /// The node and its siblings, from first to last; the root alone for the root.
+    ///
+    /// ```
+    /// # use parlaqen::{size, Image, Node};
+    /// # let mut room = [0; size::image_room(7)];
+    /// # let image = Image::seal_in(&[0, 1, 1, 1, 2, 2, 4], &mut room)?;
+    /// let siblings = image.siblings(Node::try_from(3)?)?;
+    /// assert!(siblings.map(Node::get).eq([2, 3, 4]));
+    /// assert!(image.siblings(Node::ROOT)?.eq([Node::ROOT]));
+    /// # Ok::<(), parlaqen::Error>(())
+    /// ```
+    ///
+    /// # Errors
+    ///
+    /// [`Error::NoSuchNode`](crate::Error::NoSuchNode); if the bytes have changed, those of [`Image::check`].
+    pub fn siblings(&self, node: Node) -> Result<Nodes> {
+        match self.parent(node)? {
+            Some(parent) => self.children(parent),
+            None => Ok(Nodes::between(Some(node), Some(node))),
+        }
+    }
+
+    /// One answer to each question, for any number of questions. Needs the feature `alloc`.
+    ///
+    /// They are handed over in as few calls as there can be, of up to 256 questions each. If one of these is refused,
+    /// there are no answers.
+    ///
+    /// ```
+    /// use parlaqen::{seal, Answer, Error, Node, Question};
+    ///
+    /// let image = seal(&[0, 1, 1, 1, 2, 2, 4])?;
+    /// let degrees: Vec<Question> = image.all_nodes().map(Question::Degree).collect();
+    /// assert_eq!(image.ask(&degrees)?, [3, 2, 0, 1, 0, 0, 0].map(Answer::Number));
+    ///
+    /// let mut many = vec![Question::Parent(Node::ROOT); 1_000];
+    /// many[699] = Question::Leaf(Node::try_from(8)?);
+    /// assert_eq!(image.ask(&many), Err(Error::NotAllowed { question: 700 }));
+    /// # Ok::<(), Error>(())
+    /// ```
+    ///
+    /// # Errors
+    ///
+    /// [`Error::NotAllowed`](crate::Error::NotAllowed) with the lowest question, from 1 in the whole list, about a node
+    /// that the tree does not have; if the bytes have changed, those of [`Image::check`].
+    #[cfg(feature = "alloc")]
+    pub fn ask(&self, questions: &[Question]) -> Result<Vec<Answer>> {
+        let mut answers = vec![Answer::default(); questions.len()];
+        let calls = questions.chunks(MOST_QUESTIONS).zip(answers.chunks_mut(MOST_QUESTIONS));
+        for (call, (questions, answers)) in calls.enumerate() {
+            let answered = self.ask_into(questions, answers);
+            answered.map_err(|error| error.after_questions(call * MOST_QUESTIONS))?;
+        }
         Ok(answers)
     }
 
-    /// `node` and everything below it, parents first, children in order.
-    pub fn list(&self, node: u32) -> Result<Vec<Listed>> {
-        let mut pairs = vec![0; 2 * self.counts.nodes as usize];
-        let listed = list(self.bytes, node, &mut pairs)?;
-        let pairs = pairs.chunks_exact(2).take(listed);
-        Ok(pairs.map(|pair| Listed { node: pair[0], depth: pair[1] }).collect())
+    /// One answer to each of up to 256 questions, in the beginning of a lent slice. It gives that part of the slice;
+    /// what lies after it stays.
+    ///
+    /// The numbers that are handed over and those that come back take 4 KiB of stack, beside that of the library.
+    ///
+    /// ```
+    /// use parlaqen::{size, Answer, Error, Image, Node, Question};
+    ///
+    /// let mut room = [0; size::image_room(7)];
+    /// let image = Image::seal_in(&[0, 1, 1, 1, 2, 2, 4], &mut room)?;
+    /// let mut answers = [Answer::default(); 4];
+    /// let asked = [Question::Degree(Node::ROOT), Question::Leaf(Node::ROOT)];
+    /// assert_eq!(image.ask_into(&asked, &mut answers)?, [Answer::Number(3), Answer::Leaf(false)]);
+    /// assert_eq!(image.ask_into(&asked, &mut answers[..1]), Err(Error::NoRoom));
+    /// # Ok::<(), Error>(())
+    /// ```
+    ///
+    /// # Errors
+    ///
+    /// [`Error::WrongSize`](crate::Error::WrongSize) for more than 256 questions;
+    /// [`Error::NotAllowed`](crate::Error::NotAllowed) with the lowest question, from 1, about a node that the tree
+    /// does not have; [`Error::NoRoom`](crate::Error::NoRoom) for fewer answers than questions; if the bytes have
+    /// changed, those of [`Image::check`].
+    pub fn ask_into<'a>(&self, questions: &[Question], answers: &'a mut [Answer]) -> Result<&'a [Answer]> {
+        let image = self.as_bytes();
+        // To the library one question too many is as wrong as more of them, so no more need be handed over.
+        let mut numbers = [[0; NUMBERS_OF_QUESTION]; MOST_QUESTIONS + 1];
+        let handed_over = questions.len().min(numbers.len());
+        for (numbers, question) in numbers.iter_mut().zip(questions) {
+            *numbers = question.numbers();
+        }
+        let mut given = [0; MOST_QUESTIONS];
+        let room = answers.len().min(given.len());
+        let answer = sys::ask(image, numbers[..handed_over].as_flattened(), &mut given[..room]);
+        let numbers = NUMBERS_OF_QUESTION * questions.len();
+        let (answered, _) = counts(answer, Handed::ImageAndQuestions { bytes: image.len(), numbers })?;
+        for ((answer, question), number) in answers.iter_mut().zip(questions).zip(given) {
+            *answer = question.answer(number);
+        }
+        Ok(&answers[..answered as usize])
     }
 
-    /// The parent list of the tree.
+    /// `node` and everything below it, parents first, children in order. Needs the feature `alloc`.
+    ///
+    /// ```
+    /// use parlaqen::{seal, Node};
+    ///
+    /// let image = seal(&[0, 1, 1, 1, 2, 2, 4])?;
+    /// let mut outline = String::new();
+    /// for listed in image.list(Node::ROOT)? {
+    ///     outline += &format!("{:1$}{2}\n", "", listed.depth as usize, listed.node);
+    /// }
+    /// assert_eq!(outline, "1\n 2\n  5\n  6\n 3\n 4\n  7\n");
+    /// # Ok::<(), parlaqen::Error>(())
+    /// ```
+    ///
+    /// # Errors
+    ///
+    /// [`Error::NoSuchNode`](crate::Error::NoSuchNode), [`Error::TooDeep`](crate::Error::TooDeep); if the bytes have
+    /// changed, those of [`Image::check`] and [`Error::NoRoom`](crate::Error::NoRoom).
+    #[cfg(feature = "alloc")]
+    pub fn list(&self, node: Node) -> Result<Listing<Vec<u32>>> {
+        let mut numbers = vec![0; size::listing_numbers(self.counts.nodes as usize)];
+        let listed = list(self.as_bytes(), node.get(), &mut numbers)?;
+        numbers.truncate(size::listing_numbers(listed));
+        Ok(Listing::new(numbers, listed))
+    }
+
+    /// `node` and everything below it, parents first, children in order, with its numbers in a lent slice.
+    ///
+    /// [`size::listing_numbers`](crate::size::listing_numbers) are always enough. What lies after those used stays.
+    ///
+    /// ```
+    /// use parlaqen::{size, Image, Listed, Node};
+    ///
+    /// let mut room = [0; size::image_room(7)];
+    /// let image = Image::seal_in(&[0, 1, 1, 1, 2, 2, 4], &mut room)?;
+    /// let (four, seven) = (Node::try_from(4)?, Node::try_from(7)?);
+    /// let mut numbers = [0; size::listing_numbers(2)];
+    /// let listing = image.list_in(four, &mut numbers)?;
+    /// assert!(listing.eq([Listed { node: four, depth: 0 }, Listed { node: seven, depth: 1 }]));
+    /// # Ok::<(), parlaqen::Error>(())
+    /// ```
+    ///
+    /// # Errors
+    ///
+    /// [`Error::NoSuchNode`](crate::Error::NoSuchNode), [`Error::TooDeep`](crate::Error::TooDeep),
+    /// [`Error::NoRoom`](crate::Error::NoRoom); if the bytes have changed, those of [`Image::check`].
+    pub fn list_in<'a>(&self, node: Node, numbers: &'a mut [u32]) -> Result<Listing<&'a [u32]>> {
+        let listed = list(self.as_bytes(), node.get(), numbers)?;
+        Ok(Listing::new(numbers, listed))
+    }
+
+    /// The parent list of the tree. Needs the feature `alloc`; without it there is
+    /// [`parents_of_image`](crate::parents_of_image).
+    ///
+    /// ```
+    /// let image = parlaqen::seal(&[0, 1, 1, 1, 2, 2, 4])?;
+    /// assert_eq!(image.parents()?, [0, 1, 1, 1, 2, 2, 4]);
+    /// # Ok::<(), parlaqen::Error>(())
+    /// ```
+    ///
+    /// # Errors
+    ///
+    /// None but, if the bytes have changed, those of [`Image::check`] and [`Error::NoRoom`](crate::Error::NoRoom).
+    #[cfg(feature = "alloc")]
     pub fn parents(&self) -> Result<Vec<u32>> {
         let mut parents = vec![0; self.counts.nodes as usize];
-        parents_of_image(self.bytes, &mut parents)?;
+        let nodes = parents_of_image(self.as_bytes(), &mut parents)?;
+        parents.truncate(nodes);
         Ok(parents)
+    }
+
+    /// The library's answers to questions that are all about one node.
+    fn ask_of<const N: usize>(&self, node: Node, questions: [Question; N]) -> Result<[u32; N]> {
+        let image = self.as_bytes();
+        let numbers = questions.map(Question::numbers);
+        let mut answers = [0; N];
+        let answer = sys::ask(image, numbers.as_flattened(), &mut answers);
+        counts(answer, Handed::ImageAndNode { bytes: image.len(), node: node.get() })?;
+        Ok(answers)
+    }
+
+    fn number(&self, node: Node, question: Question) -> Result<u32> {
+        let [number] = self.ask_of(node, [question])?;
+        Ok(number)
+    }
+
+    fn node(&self, node: Node, question: Question) -> Result<Option<Node>> {
+        self.number(node, question).map(Node::new)
+    }
+}
+
+impl<B: AsRef<[u8]>> fmt::Debug for Image<B> {
+    fn fmt(&self, f: &mut fmt::Formatter<'_>) -> fmt::Result {
+        f.debug_struct("Image")
+            .field("nodes", &self.nodes())
+            .field("nodes_with_children", &self.nodes_with_children())
+            .field("bytes", &self.as_bytes().len())
+            .finish_non_exhaustive()
     }
 }

@@ -1,31 +1,70 @@
 //! A sealed store for one tree of up to 65,535 nodes (LOUDS++), and tree strings laid end to end: the nine calls of
-//! `include/parlaqen.h` with slices in and [`Result`] out.
+//! `include/parlaqen.h` for Rust.
 //!
-//! The functions take lent slices, allocate nothing and leave every slice as it was when they refuse. [`seal`],
-//! [`Image`], [`TreeString`] and [`Pack`] make the room for what comes back. All of them only hand over to the library,
-//! which makes every check itself: whatever is handed in, the answer is a result or an [`Error`] with a place.
+//! A parent list is sealed to an [`Image`], which answers by itself: the parent, children and siblings of a [`Node`],
+//! lists of [`Question`]s, and listings. `TreeString` and `Pack` are what is sent. All of them only hand over to the
+//! library, which makes every check itself: whatever is handed in, the answer is a result or an [`Error`] that says in
+//! words what is wrong and where, and has the library's code and place.
 //!
-//! ```
-//! use parlaqen::{seal, Error, Image, Question};
+#![cfg_attr(feature = "alloc", doc = "```")]
+#![cfg_attr(not(feature = "alloc"), doc = "```text")]
+//! use parlaqen::{seal, Error, Image, Node};
 //!
-//! let image = seal(&[0, 1, 1, 1, 2, 2, 4])?; // the parent of each node, in level order
-//! let diary = Image::check(&image)?;
-//! assert_eq!(diary.ask(&[Question::Parent(7), Question::Degree(1)])?, [4, 3]);
-//! assert_eq!(diary.ask(&[Question::Parent(8)]), Err(Error::NotAllowed { question: 1 }));
+//! let sealed = seal(&[0, 1, 1, 1, 2, 2, 4])?; // the parent of each node, in level order
+//! let copy: Vec<u8> = sealed.into_bytes(); // what a container keeps
+//!
+//! let diary = Image::check(copy)?; // a `Vec<u8>`, a `&[u8]`, an `Arc<[u8]>`; checked once and kept
+//! for week in diary.children(Node::ROOT)? {
+//!     println!("node {week} has {} runs", diary.degree(week)?);
+//! }
+//! assert_eq!(diary.parent(Node::try_from(7)?)?, Node::new(4));
+//!
+//! let refused = diary.parent(Node::try_from(9)?).unwrap_err();
+//! assert_eq!(refused, Error::NoSuchNode { node: 9 });
+//! assert_eq!(refused.to_string(), "the tree has no node 9");
 //! # Ok::<(), Error>(())
 //! ```
 //!
+//! # Linking
+//!
 //! The archive `libparlaqen.a` is linked from the directory that the environment variable `PARLAQEN_LIB_DIR` names
-//! when the crate is built, or else from `target/lib` of the repository, where `tools/archive` puts it.
+//! when the crate is built, or else from `target/lib` of the repository, where `tools/archive` puts it. Where programs
+//! are built for several machines, `PARLAQEN_LIB_DIR_<target>` names the directory for one of them, and goes before
+//! the other; `<target>` is for example `aarch64-unknown-linux-gnu` or `aarch64_unknown_linux_gnu`. A relative
+//! directory counts from that of this crate. Checking and documenting need no archive.
+//!
+//! # Features
+//!
+//! The crate uses no `std`. The feature `alloc`, which is on by default, has everything that makes the room for its
+//! results itself: `seal`, `Image::ask`, `Image::list`, `Image::parents`, `TreeString` and `Pack`. Without it there are
+//! [`Image::seal_in`], [`Image::ask_into`], [`Image::list_in`], and the nine calls as functions of this crate. Those
+//! take lent slices, for which [`size`] has the sizes; a refused call leaves every slice as it was.
+//!
+//! # Fields
+//!
+//! Plain records of results, such as [`Counts`], `Part` and [`Listed`], have public fields and no rule between them.
+//! Types that keep something true, such as [`Image`], [`Node`], [`Nodes`], [`Listing`], `TreeString` and `Pack`, have
+//! private ones.
+
+#![no_std]
 
 // The library's sizes have 64 bits on every machine. A call with shorter ones would hand it lists of other lengths.
 #[cfg(not(target_pointer_width = "64"))]
 compile_error!("parlaqen: a size must have 64 bits, as in the library; else a call would answer 'done' and do nothing");
 
+#[cfg(feature = "alloc")]
+extern crate alloc;
+#[cfg(test)]
+extern crate std;
+
 mod calls;
 mod error;
 mod image;
+mod listing;
+mod node;
 mod question;
+pub mod size;
+#[cfg(feature = "alloc")]
 mod strings;
 #[allow(unsafe_code)]
 mod sys;
@@ -34,23 +73,70 @@ pub use calls::{
     ask, check_image, image_of_parents, join, list, parents_of_image, parents_of_string, split, string_of_parents,
     Counts,
 };
-pub use error::Error;
-pub use image::{seal, Image, Listed};
-pub use question::Question;
+pub use error::{Error, Size};
+#[cfg(feature = "alloc")]
+pub use image::seal;
+pub use image::Image;
+pub use listing::{Listed, Listing};
+pub use node::{Node, Nodes};
+pub use question::{Answer, Question};
+#[cfg(feature = "alloc")]
 pub use strings::{Pack, Part, TreeString};
 
 /// What every call gives: its result, or why it was refused and where.
-pub type Result<T> = std::result::Result<T, Error>;
+///
+/// ```
+/// fn bits(parents: &[u32]) -> parlaqen::Result<usize> {
+///     parlaqen::string_of_parents(parents, &mut [0; 9])
+/// }
+/// assert_eq!(bits(&[0, 1]), Ok(5));
+/// ```
+pub type Result<T> = core::result::Result<T, Error>;
 
+/// The version of this crate, which is that of the header it binds.
+///
+/// ```
+/// assert!(parlaqen::VERSION.starts_with("0.2."));
+/// ```
+pub const VERSION: &str = env!("CARGO_PKG_VERSION");
 /// The most nodes that a tree has.
+///
+/// ```
+/// assert_eq!(parlaqen::MOST_NODES, 65_535);
+/// ```
 pub const MOST_NODES: usize = 65_535;
 /// The most bits that a tree string or a pack has.
+///
+/// ```
+/// assert_eq!(parlaqen::MOST_BITS, parlaqen::size::string_bits(parlaqen::MOST_NODES));
+/// ```
 pub const MOST_BITS: usize = 131_071;
 /// The most trees that a pack has.
+///
+/// ```
+/// let (mut starts, mut sizes) = ([0; parlaqen::MOST_TREES], [0; parlaqen::MOST_TREES]);
+/// parlaqen::split(&[0b1001_0000], 6, 2, &mut starts, &mut sizes)?;
+/// # Ok::<(), parlaqen::Error>(())
+/// ```
 pub const MOST_TREES: usize = 256;
 /// The most questions that one call answers.
+///
+/// ```
+/// use parlaqen::{Answer, MOST_QUESTIONS};
+///
+/// let answers = [Answer::default(); MOST_QUESTIONS]; // room for any one call
+/// assert_eq!(answers.len(), 256);
+/// ```
 pub const MOST_QUESTIONS: usize = 256;
 /// The bytes of a block of an image.
+///
+/// ```
+/// assert_eq!(parlaqen::size::image_room(1) / parlaqen::BLOCK_BYTES, 5);
+/// ```
 pub const BLOCK_BYTES: usize = 512;
 /// The bytes of the largest image.
+///
+/// ```
+/// assert_eq!(parlaqen::MOST_IMAGE_BYTES, parlaqen::size::image_room(parlaqen::MOST_NODES));
+/// ```
 pub const MOST_IMAGE_BYTES: usize = 27_136;

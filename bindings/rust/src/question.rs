@@ -1,51 +1,67 @@
-/// A question about a node of an image. Its answer is a node, 0 for none, unless said otherwise.
+use crate::Node;
+
+/// A question about a node of an image. Its [`Answer`] is a node, or that there is none, unless said otherwise.
 ///
-/// Any number may stand for the node: one that the tree does not have is refused with
-/// [`Error::NotAllowed`](crate::Error::NotAllowed). Any argument is allowed: one that leads to no node gives 0.
+/// A node that the tree does not have is refused. Any argument is allowed: one that leads to no node has the answer
+/// that there is none.
 ///
 /// ```
-/// use parlaqen::Question;
+/// use parlaqen::{size, Answer, Image, Node, Question};
 ///
-/// assert_eq!(Question::Parent(7).numbers(), [1, 7, 0]);
-/// assert_eq!(Question::SiblingAt { node: 7, right: -2 }.numbers(), [10, 7, -2]);
+/// let mut room = [0; size::image_room(7)];
+/// let image = Image::seal_in(&[0, 1, 1, 1, 2, 2, 4], &mut room)?;
+/// let mut answers = [Answer::default(); 3];
+/// let node = Node::try_from(2)?;
+/// image.ask_into(&[Question::Parent(node), Question::Degree(node), Question::Leaf(node)], &mut answers)?;
+/// assert_eq!(answers, [Answer::Node(Some(Node::ROOT)), Answer::Number(2), Answer::Leaf(false)]);
+/// # Ok::<(), parlaqen::Error>(())
 /// ```
 #[derive(Clone, Copy, Debug, PartialEq, Eq, Hash)]
 pub enum Question {
     /// Kind 1: the parent; none for the root.
-    Parent(u32),
+    Parent(Node),
     /// Kind 2: the first child.
-    FirstChild(u32),
+    FirstChild(Node),
     /// Kind 3: the last child.
-    LastChild(u32),
+    LastChild(Node),
     /// Kind 4: the sibling to the right.
-    NextSibling(u32),
+    NextSibling(Node),
     /// Kind 5: the sibling to the left.
-    PreviousSibling(u32),
+    PreviousSibling(Node),
     /// Kind 6: the answer is the number of children.
-    Degree(u32),
-    /// Kind 7: the answer is the node's place among its siblings, from 1; the root's is 1.
-    ChildRank(u32),
-    /// Kind 8: the child of that number, from 1.
+    Degree(Node),
+    /// Kind 7: the answer is the number of the node among its siblings, from 1; the root's is 1.
+    ChildRank(Node),
+    /// Kind 8: the child of that number.
     ChildNumber {
         /// The node whose child is asked for.
-        node: u32,
+        node: Node,
         /// Which child, from 1.
-        number: i32,
+        number: u32,
     },
-    /// Kind 9: the answer is 1 if the node has no children, else 0.
-    Leaf(u32),
+    /// Kind 9: the answer says whether the node is a leaf, which has no children.
+    Leaf(Node),
     /// Kind 10: the sibling that many places away; 0 places away is the node itself.
     SiblingAt {
         /// The node to count from.
-        node: u32,
+        node: Node,
         /// How many places to the right, to the left where negative.
         right: i32,
     },
 }
 
 impl Question {
-    /// The question as [`ask`](crate::ask) takes it: kind, node, argument.
-    pub fn numbers(self) -> [i32; 3] {
+    /// The question as the function [`ask`](crate::ask()) takes it: kind, node, argument.
+    ///
+    /// ```
+    /// use parlaqen::{Node, Question};
+    ///
+    /// assert_eq!(Question::Parent(Node::ROOT).numbers(), [1, 1, 0]);
+    /// assert_eq!(Question::SiblingAt { node: Node::try_from(7)?, right: -2 }.numbers(), [10, 7, -2]);
+    /// # Ok::<(), parlaqen::Error>(())
+    /// ```
+    #[must_use]
+    pub const fn numbers(self) -> [i32; 3] {
         let (kind, node, argument) = match self {
             Self::Parent(node) => (1, node, 0),
             Self::FirstChild(node) => (2, node, 0),
@@ -54,11 +70,107 @@ impl Question {
             Self::PreviousSibling(node) => (5, node, 0),
             Self::Degree(node) => (6, node, 0),
             Self::ChildRank(node) => (7, node, 0),
-            Self::ChildNumber { node, number } => (8, node, number),
+            Self::ChildNumber { node, number } => (8, node, number as i32),
             Self::Leaf(node) => (9, node, 0),
             Self::SiblingAt { node, right } => (10, node, right),
         };
-        // A number over i32::MAX becomes a negative one: neither is a node of any tree, and the library says so.
-        [kind, node as i32, argument]
+        // A node or a child over i32::MAX becomes a negative one. No tree has either, and the library says so of both.
+        [kind, node.get() as i32, argument]
+    }
+
+    /// The library's answer to this question.
+    pub(crate) fn answer(self, number: u32) -> Answer {
+        match self {
+            Self::Degree(_) | Self::ChildRank(_) => Answer::Number(number),
+            Self::Leaf(_) => Answer::Leaf(number != 0),
+            Self::Parent(_)
+            | Self::FirstChild(_)
+            | Self::LastChild(_)
+            | Self::NextSibling(_)
+            | Self::PreviousSibling(_)
+            | Self::ChildNumber { .. }
+            | Self::SiblingAt { .. } => Answer::Node(Node::new(number)),
+        }
+    }
+}
+
+/// The answer to a [`Question`], of the sort that the question has.
+///
+/// ```
+/// use parlaqen::{Answer, Node};
+///
+/// let said = |answer| match answer {
+///     Answer::Node(Some(node)) => format!("node {node}"),
+///     Answer::Node(None) => "no node".to_string(),
+///     Answer::Number(number) => format!("the number {number}"),
+///     Answer::Leaf(leaf) => format!("a leaf: {leaf}"),
+/// };
+/// assert_eq!(said(Answer::Node(Some(Node::ROOT))), "node 1");
+/// assert_eq!(said(Answer::default()), "no node"); // what a list of answers can be made of before it is filled
+/// ```
+#[derive(Clone, Copy, Debug, PartialEq, Eq, Hash)]
+pub enum Answer {
+    /// The node asked for, or that there is none.
+    Node(Option<Node>),
+    /// The number asked for.
+    Number(u32),
+    /// Whether the node is a leaf.
+    Leaf(bool),
+}
+
+impl Answer {
+    /// The node, if the answer is one. None also if it is of another sort: [`Answer::Node`] can be matched for that.
+    ///
+    /// ```
+    /// use parlaqen::{Answer, Node};
+    ///
+    /// assert_eq!(Answer::Node(Some(Node::ROOT)).node(), Some(Node::ROOT));
+    /// assert_eq!(Answer::Number(1).node(), None);
+    /// ```
+    #[must_use]
+    pub const fn node(self) -> Option<Node> {
+        match self {
+            Self::Node(node) => node,
+            Self::Number(_) | Self::Leaf(_) => None,
+        }
+    }
+
+    /// The number, if the answer is one, which is so for a degree and a child rank.
+    ///
+    /// ```
+    /// use parlaqen::{Answer, Node};
+    ///
+    /// assert_eq!(Answer::Number(3).number(), Some(3));
+    /// assert_eq!(Answer::Node(Some(Node::ROOT)).number(), None);
+    /// ```
+    #[must_use]
+    pub const fn number(self) -> Option<u32> {
+        match self {
+            Self::Number(number) => Some(number),
+            Self::Node(_) | Self::Leaf(_) => None,
+        }
+    }
+
+    /// Whether the node is a leaf, if that was the question.
+    ///
+    /// ```
+    /// use parlaqen::Answer;
+    ///
+    /// assert_eq!(Answer::Leaf(true).leaf(), Some(true));
+    /// assert_eq!(Answer::Number(1).leaf(), None);
+    /// ```
+    #[must_use]
+    pub const fn leaf(self) -> Option<bool> {
+        match self {
+            Self::Leaf(leaf) => Some(leaf),
+            Self::Node(_) | Self::Number(_) => None,
+        }
+    }
+}
+
+impl Default for Answer {
+    /// That there is no node.
+    fn default() -> Self {
+        Self::Node(None)
     }
 }

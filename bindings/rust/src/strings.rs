@@ -1,42 +1,127 @@
-use crate::{join, parents_of_string, split, string_of_parents, Result, MOST_BITS, MOST_TREES};
+use alloc::{vec, vec::Vec};
+use core::fmt;
 
-/// A tree string: its bits, most significant first, in exactly as many bytes as they take.
+use crate::{join, parents_of_string, size, split, string_of_parents, Error, Result, MOST_NODES, MOST_TREES};
+
+/// A tree string: its bits, most significant first, in exactly as many bytes as they take. Needs the feature `alloc`.
 ///
 /// ```
 /// use parlaqen::TreeString;
 ///
-/// let string = TreeString::of_parents(&[0, 1, 1, 1, 2, 2, 4])?;
-/// assert_eq!((string.bits, &string.bytes[..]), (15, &[0xBB, 0x20][..]));
-/// assert_eq!(string.parents()?, [0, 1, 1, 1, 2, 2, 4]);
+/// let sent = TreeString::of_parents(&[0, 1, 1, 1, 2, 2, 4])?;
+/// assert_eq!((sent.bits(), sent.bytes()), (15, &[0xBB, 0x20][..]));
+///
+/// let got = TreeString::received(sent.bytes().to_vec(), sent.bits())?;
+/// assert_eq!(got.parents()?, [0, 1, 1, 1, 2, 2, 4]);
 /// # Ok::<(), parlaqen::Error>(())
 /// ```
-#[derive(Clone, Debug, PartialEq, Eq)]
+#[derive(Clone, PartialEq, Eq, Hash)]
 pub struct TreeString {
-    /// The bytes that hold the bits.
-    pub bytes: Vec<u8>,
-    /// The number of bits.
-    pub bits: usize,
+    bytes: Vec<u8>,
+    bits: usize,
 }
 
 impl TreeString {
     /// The string of a parent list.
+    ///
+    /// ```
+    /// use parlaqen::{Error, TreeString};
+    ///
+    /// assert_eq!(TreeString::of_parents(&[0])?.bytes(), [0b1000_0000]);
+    /// assert_eq!(TreeString::of_parents(&[0, 0]), Err(Error::NotParents { entry: 2 }));
+    /// # Ok::<(), Error>(())
+    /// ```
+    ///
+    /// # Errors
+    ///
+    /// [`Error::WrongSize`], [`Error::NotParents`].
     pub fn of_parents(parents: &[u32]) -> Result<Self> {
-        let mut bytes = vec![0; bytes_of_string(parents.len())];
+        // a longer list is refused before room matters
+        let mut bytes = vec![0; size::string_bytes(parents.len().min(MOST_NODES))];
         let bits = string_of_parents(parents, &mut bytes)?;
         Ok(Self { bytes, bits })
     }
 
-    /// The parent list, if these bits are a tree string.
+    /// A string that came from elsewhere, if its bits are those of a tree.
+    ///
+    /// ```
+    /// use parlaqen::{Error, TreeString};
+    ///
+    /// assert_eq!(TreeString::received(vec![0xBB, 0x20], 15)?.nodes(), 7);
+    /// assert_eq!(TreeString::received(vec![0xBB, 0x20], 14), Err(Error::EndsTooEarly { bits: 14 }));
+    /// assert_eq!(TreeString::received(vec![0xFB, 0x20], 15), Err(Error::NotString { bit: 2 }));
+    /// # Ok::<(), Error>(())
+    /// ```
+    ///
+    /// # Errors
+    ///
+    /// [`Error::WrongSize`], [`Error::LeftoverSet`], [`Error::NotString`], [`Error::EndsTooEarly`].
+    pub fn received(bytes: Vec<u8>, bits: usize) -> Result<Self> {
+        // The library looks at the room last, and every tree has a node, which needs some: a string is refused for the
+        // lack of it exactly if there is nothing else wrong.
+        match parents_of_string(&bytes, bits, &mut []) {
+            Ok(_) | Err(Error::NoRoom) => Ok(Self { bytes, bits }),
+            Err(refused) => Err(refused),
+        }
+    }
+
+    /// The bytes that hold the bits, exactly as many as they take.
+    ///
+    /// ```
+    /// assert_eq!(parlaqen::TreeString::of_parents(&[0, 1])?.bytes(), [0b1010_0000]);
+    /// # Ok::<(), parlaqen::Error>(())
+    /// ```
+    #[must_use]
+    pub fn bytes(&self) -> &[u8] {
+        &self.bytes
+    }
+
+    /// The number of bits.
+    ///
+    /// ```
+    /// assert_eq!(parlaqen::TreeString::of_parents(&[0, 1])?.bits(), 5);
+    /// # Ok::<(), parlaqen::Error>(())
+    /// ```
+    #[must_use]
+    pub fn bits(&self) -> usize {
+        self.bits
+    }
+
+    /// The number of nodes of the tree.
+    ///
+    /// ```
+    /// assert_eq!(parlaqen::TreeString::of_parents(&[0, 1])?.nodes(), 2);
+    /// # Ok::<(), parlaqen::Error>(())
+    /// ```
+    #[must_use]
+    pub fn nodes(&self) -> u32 {
+        (self.bits / 2) as u32
+    }
+
+    /// The parent list.
+    ///
+    /// ```
+    /// assert_eq!(parlaqen::TreeString::received(vec![0b1010_0000], 5)?.parents()?, [0, 1]);
+    /// # Ok::<(), parlaqen::Error>(())
+    /// ```
+    ///
+    /// # Errors
+    ///
+    /// None are known, since these bits were found to be a tree string; the library, which looks again, would say.
     pub fn parents(&self) -> Result<Vec<u32>> {
-        // longer bits are refused before room matters
-        let mut parents = vec![0; self.bits.min(MOST_BITS) / 2];
-        let nodes = parents_of_string(&self.bytes, self.bits, &mut parents)?;
-        parents.truncate(nodes);
+        let mut parents = vec![0; self.nodes() as usize];
+        parents_of_string(&self.bytes, self.bits, &mut parents)?;
         Ok(parents)
     }
 }
 
-/// Tree strings laid end to end, with no mark between them.
+impl fmt::Debug for TreeString {
+    fn fmt(&self, f: &mut fmt::Formatter<'_>) -> fmt::Result {
+        f.debug_struct("TreeString").field("nodes", &self.nodes()).field("bits", &self.bits).finish_non_exhaustive()
+    }
+}
+
+/// Tree strings laid end to end, with no mark between them. Needs the feature `alloc`.
 ///
 /// ```
 /// use parlaqen::{Error, Pack, Part};
@@ -54,29 +139,57 @@ impl TreeString {
 /// assert_eq!(Pack::received(damaged, sent.bits(), 2), Err(Error::NotString { bit: 7 }));
 /// # Ok::<(), Error>(())
 /// ```
-#[derive(Clone, Debug, Default, PartialEq, Eq)]
+#[derive(Clone, Default, PartialEq, Eq, Hash)]
 pub struct Pack {
     bytes: Vec<u8>,
     bits: usize,
     trees: usize,
 }
 
-/// Where a tree is in a pack.
-#[derive(Clone, Copy, Debug, PartialEq, Eq)]
+/// Where a tree is in a pack. Needs the feature `alloc`.
+///
+/// ```
+/// let mut pack = parlaqen::Pack::new();
+/// pack.join(&[0, 1, 1])?;
+/// pack.join(&[0])?;
+/// let last = pack.split()?[1];
+/// assert_eq!((last.start, last.nodes), (8, 1));
+/// # Ok::<(), parlaqen::Error>(())
+/// ```
+#[derive(Clone, Copy, Debug, PartialEq, Eq, Hash)]
 pub struct Part {
     /// Its first bit, from 1.
     pub start: u32,
-    /// Its number of nodes; its string has twice as many bits and one.
+    /// Its number of nodes; its string has [`size::string_bits`] bits.
     pub nodes: u32,
 }
 
 impl Pack {
     /// A pack of no trees.
+    ///
+    /// ```
+    /// let pack = parlaqen::Pack::new();
+    /// assert_eq!((pack.trees(), pack.bits()), (0, 0));
+    /// ```
+    #[must_use]
     pub const fn new() -> Self {
         Self { bytes: Vec::new(), bits: 0, trees: 0 }
     }
 
     /// A pack that came from elsewhere, if its bits are the strings of so many trees.
+    ///
+    /// ```
+    /// use parlaqen::{Error, Pack};
+    ///
+    /// assert_eq!(Pack::received(vec![0b1001_0000], 6, 2)?.trees(), 2);
+    /// assert_eq!(Pack::received(vec![0b1001_0000], 6, 3), Err(Error::OtherTrees { found: 2 }));
+    /// # Ok::<(), Error>(())
+    /// ```
+    ///
+    /// # Errors
+    ///
+    /// [`Error::WrongSize`], [`Error::LeftoverSet`], [`Error::NotString`], [`Error::EndsTooEarly`],
+    /// [`Error::OtherTrees`].
     pub fn received(bytes: Vec<u8>, bits: usize, trees: usize) -> Result<Self> {
         let pack = Self { bytes, bits, trees };
         pack.split()?;
@@ -84,34 +197,84 @@ impl Pack {
     }
 
     /// The bytes that hold the bits, exactly as many as they take.
+    ///
+    /// ```
+    /// let mut pack = parlaqen::Pack::new();
+    /// pack.join(&[0])?;
+    /// assert_eq!(pack.bytes(), [0b1000_0000]);
+    /// # Ok::<(), parlaqen::Error>(())
+    /// ```
+    #[must_use]
     pub fn bytes(&self) -> &[u8] {
         &self.bytes
     }
 
     /// The number of bits.
+    ///
+    /// ```
+    /// let mut pack = parlaqen::Pack::new();
+    /// pack.join(&[0])?;
+    /// assert_eq!(pack.bits(), 3);
+    /// # Ok::<(), parlaqen::Error>(())
+    /// ```
+    #[must_use]
     pub fn bits(&self) -> usize {
         self.bits
     }
 
     /// The number of trees.
+    ///
+    /// ```
+    /// let mut pack = parlaqen::Pack::new();
+    /// pack.join(&[0])?;
+    /// assert_eq!(pack.trees(), 1);
+    /// # Ok::<(), parlaqen::Error>(())
+    /// ```
+    #[must_use]
     pub fn trees(&self) -> usize {
         self.trees
     }
 
-    /// Adds the tree of a parent list at the end.
+    /// Adds the tree of a parent list at the end. If that is refused, the pack stays as it was.
+    ///
+    /// ```
+    /// use parlaqen::{Error, Pack};
+    ///
+    /// let mut pack = Pack::new();
+    /// pack.join(&[0, 1, 1])?;
+    /// assert_eq!(pack.join(&[0, 2]), Err(Error::NotParents { entry: 2 }));
+    /// assert_eq!((pack.trees(), pack.bits()), (1, 7));
+    /// # Ok::<(), Error>(())
+    /// ```
+    ///
+    /// # Errors
+    ///
+    /// [`Error::WrongSize`], [`Error::NotParents`].
     pub fn join(&mut self, parents: &[u32]) -> Result<()> {
-        let room = self.bytes.len() + bytes_of_string(parents.len());
+        // a longer list is refused before room matters
+        let room = size::bytes_of_bits(self.bits + size::string_bits(parents.len().min(MOST_NODES)));
         self.bytes.resize(room, 0);
         let joined = join(&mut self.bytes, self.bits, self.trees, parents);
         if let Ok(bits) = joined {
             self.bits = bits;
             self.trees += 1;
         }
-        self.bytes.truncate(self.bits.div_ceil(8));
+        self.bytes.truncate(size::bytes_of_bits(self.bits));
         joined.map(|_| ())
     }
 
     /// Where each tree is.
+    ///
+    /// ```
+    /// let mut pack = parlaqen::Pack::new();
+    /// pack.join(&[0, 1, 1])?;
+    /// assert_eq!(pack.split()?, [parlaqen::Part { start: 1, nodes: 3 }]);
+    /// # Ok::<(), parlaqen::Error>(())
+    /// ```
+    ///
+    /// # Errors
+    ///
+    /// None are known, since these bits were found to be a pack; the library, which looks again, would say.
     pub fn split(&self) -> Result<Vec<Part>> {
         // more trees are refused before room matters
         let room = self.trees.min(MOST_TREES);
@@ -122,6 +285,18 @@ impl Pack {
     }
 
     /// The parent list of each tree.
+    ///
+    /// ```
+    /// let mut pack = parlaqen::Pack::new();
+    /// pack.join(&[0, 1, 1])?;
+    /// pack.join(&[0])?;
+    /// assert_eq!(pack.parent_lists()?, [vec![0, 1, 1], vec![0]]);
+    /// # Ok::<(), parlaqen::Error>(())
+    /// ```
+    ///
+    /// # Errors
+    ///
+    /// None are known, since these bits were found to be a pack; the library, which looks again, would say.
     pub fn parent_lists(&self) -> Result<Vec<Vec<u32>>> {
         let parts = self.split()?;
         parts.into_iter().map(|part| self.moved(part).parents()).collect()
@@ -129,18 +304,26 @@ impl Pack {
 
     /// The bits of a part of this pack, moved to begin at the first bit.
     fn moved(&self, part: Part) -> TreeString {
-        let bits = 2 * part.nodes as usize + 1;
-        let mut bytes = vec![0; bits.div_ceil(8)];
-        for to in 0..bits {
-            let from = part.start as usize - 1 + to;
-            let bit = self.bytes[from / 8] >> (7 - from % 8) & 1;
-            bytes[to / 8] |= bit << (7 - to % 8);
+        let bits = size::string_bits(part.nodes as usize);
+        let before = part.start as usize - 1;
+        let (first, shift) = (before / 8, before % 8);
+        let moved = (first..first + size::bytes_of_bits(bits)).map(|at| {
+            let next = self.bytes.get(at + 1).copied().unwrap_or_default();
+            let [moved, _] = (u16::from_be_bytes([self.bytes[at], next]) << shift).to_be_bytes();
+            moved
+        });
+        let mut bytes: Vec<u8> = moved.collect();
+        // what came along of the next tree
+        let leftover = 8 * bytes.len() - bits;
+        if let Some(last) = bytes.last_mut() {
+            *last = *last >> leftover << leftover;
         }
         TreeString { bytes, bits }
     }
 }
 
-/// The bytes that the string of n nodes takes: 2n + 1 bits, rounded up.
-fn bytes_of_string(nodes: usize) -> usize {
-    nodes / 4 + 1
+impl fmt::Debug for Pack {
+    fn fmt(&self, f: &mut fmt::Formatter<'_>) -> fmt::Result {
+        f.debug_struct("Pack").field("trees", &self.trees).field("bits", &self.bits).finish_non_exhaustive()
+    }
 }

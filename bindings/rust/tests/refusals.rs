@@ -2,12 +2,14 @@
 
 mod common;
 
-use common::{image_of_t, path, T};
+use common::{image_of, image_of_t, path, T};
 use parlaqen::{
-    ask, check_image, image_of_parents, join, list, parents_of_image, parents_of_string, seal, split,
-    string_of_parents, Error, Image, Pack, Question, Result, TreeString, BLOCK_BYTES, MOST_BITS, MOST_IMAGE_BYTES,
-    MOST_NODES, MOST_QUESTIONS, MOST_TREES,
+    ask, check_image, image_of_parents, join, list, parents_of_image, parents_of_string, split, string_of_parents,
+    Answer, Error, Image, Node, Question, Result, Size, BLOCK_BYTES, MOST_BITS, MOST_IMAGE_BYTES, MOST_NODES,
+    MOST_QUESTIONS, MOST_TREES,
 };
+#[cfg(feature = "alloc")]
+use parlaqen::{seal, Pack, TreeString};
 
 /// Lends `room` elements of `pattern` to a call that is to be refused, and sees that none of them changed.
 fn refused<E: Copy + PartialEq + std::fmt::Debug, R: std::fmt::Debug>(
@@ -19,6 +21,11 @@ fn refused<E: Copy + PartialEq + std::fmt::Debug, R: std::fmt::Debug>(
     let error = call(&mut lent).unwrap_err();
     assert!(lent.iter().all(|element| *element == pattern));
     error
+}
+
+/// The refusal of a parent list by its number of numbers.
+fn wrong_nodes(nodes: usize) -> Error {
+    Error::WrongSize(Size::Nodes { nodes })
 }
 
 /// Makes the two sums of every block right again after something in it was changed.
@@ -43,11 +50,13 @@ fn bad_images() -> Vec<(Vec<u8>, Error)> {
         change(&mut image);
         image
     };
+    let wrong_blocks = |blocks| Error::WrongSize(Size::ImageBlocks { blocks });
     vec![
-        (vec![], Error::WrongSize),
-        (with(|image| image.truncate(4 * BLOCK_BYTES)), Error::WrongSize),
-        (with(|image| image.push(0)), Error::WrongSize),
-        (vec![0; MOST_IMAGE_BYTES + BLOCK_BYTES], Error::WrongSize),
+        (vec![], wrong_blocks(0)),
+        (with(|image| image.truncate(4 * BLOCK_BYTES)), wrong_blocks(4)),
+        (with(|image| image.push(0)), Error::WrongSize(Size::ImageBytes { bytes: 2_561 })),
+        (with(|image| image.truncate(1)), Error::WrongSize(Size::ImageBytes { bytes: 1 })),
+        (vec![0; MOST_IMAGE_BYTES + BLOCK_BYTES], wrong_blocks(54)),
         (with(|image| image[4] ^= 1), Error::WrongSums { block: 0 }),
         (with(|image| image[2 * BLOCK_BYTES - 1] ^= 0x80), Error::WrongSums { block: 1 }),
         (
@@ -77,8 +86,8 @@ fn bad_images() -> Vec<(Vec<u8>, Error)> {
 #[test]
 fn string_of_parents_refuses() {
     let make = |parents: &[u32], room| refused(room, 0xA5, |bytes| string_of_parents(parents, bytes));
-    assert_eq!(make(&[], 9), Error::WrongSize);
-    assert_eq!(make(&[0; MOST_NODES + 1], 20_000), Error::WrongSize);
+    assert_eq!(make(&[], 9), wrong_nodes(0));
+    assert_eq!(make(&[0; MOST_NODES + 1], 20_000), wrong_nodes(65_536));
     assert_eq!(make(&[1], 9), Error::NotParents { entry: 1 });
     assert_eq!(make(&[0, 2], 9), Error::NotParents { entry: 2 });
     assert_eq!(make(&[0, 1, 2, 1], 9), Error::NotParents { entry: 4 });
@@ -89,33 +98,51 @@ fn string_of_parents_refuses() {
 #[test]
 fn parents_of_string_refuses() {
     let read = |bytes: &[u8], bits, room| refused(room, 77, |parents| parents_of_string(bytes, bits, parents));
-    assert_eq!(read(&[0xBB, 0x20], 16 + 1, 9), Error::WrongSize);
-    assert_eq!(read(&[0xBB, 0x20, 0], 15, 9), Error::WrongSize);
-    assert_eq!(read(&[0xBB, 0x20], MOST_BITS + 1, 9), Error::WrongSize);
-    assert_eq!(read(&[0xBB, 0x20], usize::MAX, 9), Error::WrongSize);
+    assert_eq!(read(&[0xBB, 0x20], 16 + 1, 9), Error::WrongSize(Size::Bytes { bytes: 2, bits: 17 }));
+    assert_eq!(read(&[0xBB, 0x20, 0], 15, 9), Error::WrongSize(Size::Bytes { bytes: 3, bits: 15 }));
+    assert_eq!(read(&[0xBB, 0x20], MOST_BITS + 1, 9), Error::WrongSize(Size::Bits { bits: 131_072 }));
+    assert_eq!(read(&[0xBB, 0x20], usize::MAX, 9), Error::WrongSize(Size::Bits { bits: usize::MAX }));
     assert_eq!(read(&[0xBB, 0x21], 15, 9), Error::LeftoverSet);
     assert_eq!(read(&[0b1100_0000], 3, 9), Error::NotString { bit: 2 });
-    assert_eq!(read(&[0b1000_0000], 2, 9), Error::NotString { bit: 3 });
+    assert_eq!(read(&[0b1000_0000], 2, 9), Error::EndsTooEarly { bits: 2 });
     assert_eq!(read(&[0b1000_0000], 4, 9), Error::NotString { bit: 4 });
-    assert_eq!(read(&[], 0, 9), Error::NotString { bit: 1 });
+    assert_eq!(read(&[], 0, 9), Error::EndsTooEarly { bits: 0 });
     assert_eq!(read(&[0xBB, 0x20], 15, 6), Error::NoRoom);
 }
 
 #[test]
 fn image_of_parents_refuses() {
     let make = |parents: &[u32], room| refused(room, 0xA5, |image| image_of_parents(parents, image));
-    assert_eq!(make(&[], MOST_IMAGE_BYTES), Error::WrongSize);
-    assert_eq!(make(&[0; MOST_NODES + 1], MOST_IMAGE_BYTES), Error::WrongSize);
+    assert_eq!(make(&[], MOST_IMAGE_BYTES), wrong_nodes(0));
+    assert_eq!(make(&[0; MOST_NODES + 1], MOST_IMAGE_BYTES), wrong_nodes(65_536));
     assert_eq!(make(&[0, 1, 3], MOST_IMAGE_BYTES), Error::NotParents { entry: 3 });
     assert_eq!(make(&T, 5 * BLOCK_BYTES - 1), Error::NoRoom);
-    assert_eq!(seal(&[]), Err(Error::WrongSize));
+}
+
+#[test]
+fn sealing_in_a_lent_buffer_refuses() {
+    let make = |parents: &[u32], room| {
+        refused(room, 0xA5, |image| Image::seal_in(parents, image).map(|image| image.into_bytes().len()))
+    };
+    assert_eq!(make(&[], MOST_IMAGE_BYTES), wrong_nodes(0));
+    assert_eq!(make(&[0; MOST_NODES + 1], MOST_IMAGE_BYTES), wrong_nodes(65_536));
+    assert_eq!(make(&[0, 1, 3], MOST_IMAGE_BYTES), Error::NotParents { entry: 3 });
+    assert_eq!(make(&T, 5 * BLOCK_BYTES - 1), Error::NoRoom);
+}
+
+#[cfg(feature = "alloc")]
+#[test]
+fn sealing_refuses() {
+    assert_eq!(seal(&[]), Err(wrong_nodes(0)));
+    assert_eq!(seal(&[0; MOST_NODES + 1]), Err(wrong_nodes(65_536)));
+    assert_eq!(seal(&[0, 0]), Err(Error::NotParents { entry: 2 }));
 }
 
 #[test]
 fn every_reading_of_an_image_refuses_what_is_none() {
     for (image, error) in bad_images() {
         assert_eq!(check_image(&image), Err(error));
-        assert_eq!(Image::check(&image).unwrap_err(), error);
+        assert_eq!(Image::check(&image), Err(error));
         assert_eq!(refused(9, 77, |parents| parents_of_image(&image, parents)), error);
         assert_eq!(refused(9, 77, |answers| ask(&image, &[1, 1, 0], answers)), error);
         assert_eq!(refused(18, 77, |pairs| list(&image, 1, pairs)), error);
@@ -132,8 +159,9 @@ fn parents_of_image_refuses() {
 fn ask_refuses() {
     let image = image_of_t();
     let asked = |questions: &[i32], room| refused(room, 77, |answers| ask(&image, questions, answers));
-    assert_eq!(asked(&[1, 1], 9), Error::WrongSize);
-    assert_eq!(asked(&[1; 3 * (MOST_QUESTIONS + 1)], 300), Error::WrongSize);
+    assert_eq!(asked(&[1, 1], 9), Error::WrongSize(Size::QuestionNumbers { numbers: 2 }));
+    let too_many = Error::WrongSize(Size::Questions { questions: 257 });
+    assert_eq!(asked(&[1; 3 * (MOST_QUESTIONS + 1)], 300), too_many);
     assert_eq!(asked(&[0, 1, 0], 9), Error::NotAllowed { question: 1 });
     assert_eq!(asked(&[1, 1, 0, 11, 1, 0], 9), Error::NotAllowed { question: 2 });
     assert_eq!(asked(&[1, 1, 0, 1, 8, 0], 9), Error::NotAllowed { question: 2 });
@@ -142,30 +170,99 @@ fn ask_refuses() {
     assert_eq!(asked(&[1, 1, 0, 1, 2, 0], 1), Error::NoRoom);
 }
 
+/// Every kind of question about a node.
+fn questions_about(node: Node) -> [Question; 10] {
+    [
+        Question::Parent(node),
+        Question::FirstChild(node),
+        Question::LastChild(node),
+        Question::NextSibling(node),
+        Question::PreviousSibling(node),
+        Question::Degree(node),
+        Question::ChildRank(node),
+        Question::ChildNumber { node, number: 1 },
+        Question::Leaf(node),
+        Question::SiblingAt { node, right: 0 },
+    ]
+}
+
 #[test]
-fn a_node_that_no_tree_has_is_not_allowed_in_any_question() {
-    let bytes = image_of_t();
-    let image = Image::check(&bytes).unwrap();
-    for node in [0, 8, 65_536, i32::MAX as u32, 1 << 31, u32::MAX] {
-        for question in [
-            Question::Parent(node),
-            Question::FirstChild(node),
-            Question::LastChild(node),
-            Question::NextSibling(node),
-            Question::PreviousSibling(node),
-            Question::Degree(node),
-            Question::ChildRank(node),
-            Question::ChildNumber { node, number: 1 },
-            Question::Leaf(node),
-            Question::SiblingAt { node, right: 0 },
-        ] {
-            let error = image.ask(&[Question::Parent(1), question]).unwrap_err();
-            assert_eq!(error, Error::NotAllowed { question: 2 });
-        }
-        assert_eq!(image.list(node), Err(Error::NotAllowed { question: 1 }));
+fn asking_into_a_lent_slice_refuses() {
+    let image = Image::check(image_of_t()).unwrap();
+    let pattern = Answer::Number(77);
+    let asked = |questions: &[Question], room| {
+        refused(room, pattern, |answers| image.ask_into(questions, answers).map(<[Answer]>::len))
+    };
+    let parent = Question::Parent(Node::ROOT);
+    for count in [257, 258, 1_000, 65_536] {
+        let too_many = Error::WrongSize(Size::Questions { questions: count });
+        assert_eq!(asked(&vec![parent; count], count), too_many);
+        assert_eq!(asked(&vec![parent; count], 0), too_many);
     }
-    let too_many = [Question::Parent(1); MOST_QUESTIONS + 1];
-    assert_eq!(image.ask(&too_many), Err(Error::WrongSize));
+    assert_eq!(asked(&[parent; 256], 255), Error::NoRoom);
+    assert_eq!(asked(&[parent; 1], 0), Error::NoRoom);
+    assert_eq!(asked(&[parent, Question::Leaf(Node::new(8).unwrap())], 9), Error::NotAllowed { question: 2 });
+}
+
+#[test]
+fn a_node_that_the_tree_does_not_have_is_refused_in_every_question() {
+    let image = Image::check(image_of_t()).unwrap();
+    for number in [8, 65_536, i32::MAX as u32, 1 << 31, u32::MAX] {
+        let node = Node::new(number).unwrap();
+        for question in questions_about(node) {
+            let mut answers = [Answer::Number(77); 2];
+            let error = image.ask_into(&[Question::Parent(Node::ROOT), question], &mut answers).unwrap_err();
+            assert_eq!(error, Error::NotAllowed { question: 2 });
+            assert_eq!(answers, [Answer::Number(77); 2]);
+            #[cfg(feature = "alloc")]
+            assert_eq!(image.ask(&[Question::Parent(Node::ROOT), question]), Err(error));
+        }
+    }
+}
+
+#[test]
+fn a_node_that_the_tree_does_not_have_is_named() {
+    let image = Image::check(image_of_t()).unwrap();
+    for number in [8, 65_536, i32::MAX as u32, 1 << 31, u32::MAX] {
+        let node = Node::new(number).unwrap();
+        let error = Error::NoSuchNode { node: number };
+        assert_eq!((error.code(), error.place()), (8, 1));
+        assert_eq!(image.parent(node), Err(error));
+        assert_eq!(image.first_child(node), Err(error));
+        assert_eq!(image.last_child(node), Err(error));
+        assert_eq!(image.next_sibling(node), Err(error));
+        assert_eq!(image.previous_sibling(node), Err(error));
+        assert_eq!(image.degree(node), Err(error));
+        assert_eq!(image.child_rank(node), Err(error));
+        assert_eq!(image.child(node, 1), Err(error));
+        assert_eq!(image.sibling_at(node, 0), Err(error));
+        assert_eq!(image.is_leaf(node), Err(error));
+        assert_eq!(image.children(node), Err(error));
+        assert_eq!(image.siblings(node), Err(error));
+        let listed = refused(18, 77, |numbers| image.list_in(node, numbers).map(|listing| listing.len()));
+        assert_eq!(listed, error);
+        #[cfg(feature = "alloc")]
+        assert_eq!(image.list(node).unwrap_err(), error);
+    }
+    assert_eq!(Node::try_from(0), Err(Error::NoSuchNode { node: 0 }));
+}
+
+#[cfg(feature = "alloc")]
+#[test]
+fn a_refused_question_is_counted_in_the_whole_list() {
+    let image = seal(&T).unwrap();
+    let wrong = Question::Degree(Node::new(8).unwrap());
+    for count in [1, 255, 256, 257, 512, 513, 1_000] {
+        for which in [1, 2, 256, 257, 258, 512, 513, 514, 1_000] {
+            if which > count {
+                continue;
+            }
+            let mut questions = vec![Question::Degree(Node::ROOT); count];
+            questions[which - 1] = wrong;
+            *questions.last_mut().unwrap() = wrong; // the lowest is given
+            assert_eq!(image.ask(&questions), Err(Error::NotAllowed { question: which as u32 }));
+        }
+    }
 }
 
 #[test]
@@ -176,17 +273,18 @@ fn split_refuses() {
         assert!(sizes.iter().all(|size| *size == 88));
         error
     };
-    assert_eq!(parts(&[0b1001_0000], 6, MOST_TREES + 1, 300, 300), Error::WrongSize);
-    assert_eq!(parts(&[0b1001_0000], 9, 2, 9, 9), Error::WrongSize);
-    assert_eq!(parts(&[0b1001_0000], usize::MAX, 2, 9, 9), Error::WrongSize);
+    let wrong_trees = |trees| Error::WrongSize(Size::Trees { trees });
+    assert_eq!(parts(&[0b1001_0000], 6, MOST_TREES + 1, 300, 300), wrong_trees(257));
+    assert_eq!(parts(&[0b1001_0000], 6, usize::MAX, 9, 9), wrong_trees(usize::MAX));
+    assert_eq!(parts(&[0b1001_0000], 9, 2, 9, 9), Error::WrongSize(Size::Bytes { bytes: 1, bits: 9 }));
+    assert_eq!(parts(&[0b1001_0000], usize::MAX, 2, 9, 9), Error::WrongSize(Size::Bits { bits: usize::MAX }));
     assert_eq!(parts(&[0b1001_0001], 6, 2, 9, 9), Error::LeftoverSet);
     assert_eq!(parts(&[0b1000_0000], 6, 2, 9, 9), Error::NotString { bit: 4 });
-    assert_eq!(parts(&[0b1001_0000], 5, 2, 9, 9), Error::NotString { bit: 6 });
+    assert_eq!(parts(&[0b1001_0000], 5, 2, 9, 9), Error::EndsTooEarly { bits: 5 });
     assert_eq!(parts(&[0b1001_0000], 6, 1, 9, 9), Error::OtherTrees { found: 2 });
     assert_eq!(parts(&[], 0, 1, 9, 9), Error::OtherTrees { found: 0 });
     assert_eq!(parts(&[0b1001_0000], 6, 2, 1, 9), Error::NoRoom);
     assert_eq!(parts(&[0b1001_0000], 6, 2, 9, 1), Error::NoRoom);
-    assert_eq!(Pack::received(vec![0b1001_0000], 6, usize::MAX), Err(Error::WrongSize));
 }
 
 #[test]
@@ -197,12 +295,18 @@ fn join_refuses() {
         assert_eq!(lent, pack);
         error
     };
-    assert_eq!(joined(&[0; 9], 0, 0, &[]), Error::WrongSize);
-    assert_eq!(joined(&[0x90], 9, 1, &[0]), Error::WrongSize);
-    assert_eq!(joined(&[0x90, 0], 3, MOST_TREES, &[0]), Error::WrongSize);
-    assert_eq!(joined(&[0x90; 20_000], MOST_BITS - 1, 1, &[0]), Error::WrongSize);
+    let wrong = Error::WrongSize;
+    assert_eq!(joined(&[0; 9], 0, 0, &[]), wrong_nodes(0));
+    assert_eq!(joined(&[0; 9], 0, 0, &[0; MOST_NODES + 1]), wrong_nodes(65_536));
+    assert_eq!(joined(&[0x90], 9, 1, &[0]), wrong(Size::TooFewBytes { bytes: 1, bits: 9 }));
+    assert_eq!(joined(&[0x90], usize::MAX, 1, &[0]), wrong(Size::Bits { bits: usize::MAX }));
+    assert_eq!(joined(&[0x90, 0], 3, MOST_TREES, &[0]), wrong(Size::TreesBefore { trees: 256 }));
+    assert_eq!(joined(&[0x80], 3, MOST_TREES, &[0]), wrong(Size::TreesBefore { trees: 256 }));
+    assert_eq!(joined(&[0x90, 0], 3, usize::MAX, &[0]), wrong(Size::TreesBefore { trees: usize::MAX }));
+    assert_eq!(joined(&[0x90; 20_000], MOST_BITS - 1, 1, &[0]), wrong(Size::JoinedBits { bits: 131_073 }));
     assert_eq!(joined(&[0x90, 0], 3, 1, &[0]), Error::LeftoverSet);
     assert_eq!(joined(&[0x00, 0], 3, 1, &[0]), Error::NotString { bit: 1 });
+    assert_eq!(joined(&[0x80, 0], 2, 1, &[0]), Error::EndsTooEarly { bits: 2 });
     assert_eq!(joined(&[0x80, 0], 3, 2, &[0]), Error::OtherTrees { found: 1 });
     assert_eq!(joined(&[0x80, 0], 3, 1, &[0, 0]), Error::NotParents { entry: 2 });
     assert_eq!(joined(&[0x80], 3, 1, &[0, 1, 1]), Error::NoRoom);
@@ -213,24 +317,108 @@ fn list_refuses() {
     let image = image_of_t();
     for node in [0, 8, u32::MAX] {
         let error = refused(18, 77, |pairs| list(&image, node, pairs));
-        assert_eq!(error, Error::NotAllowed { question: 1 });
+        assert_eq!(error, Error::NoSuchNode { node });
     }
     assert_eq!(refused(13, 77, |pairs| list(&image, 1, pairs)), Error::NoRoom);
-    let deep = seal(&path(65)).unwrap();
-    let error = refused(200, 77, |pairs| list(&deep, 1, pairs));
+    let deep = Image::check(image_of(&path(65))).unwrap();
+    let error = refused(200, 77, |pairs| list(deep.as_bytes(), 1, pairs));
     assert_eq!(error, Error::TooDeep { node: 65 });
+    let error = refused(200, 77, |numbers| deep.list_in(Node::ROOT, numbers).map(|listing| listing.len()));
+    assert_eq!(error, Error::TooDeep { node: 65 });
+    #[cfg(feature = "alloc")]
+    assert_eq!(deep.list(Node::ROOT).unwrap_err(), Error::TooDeep { node: 65 });
 }
 
+#[cfg(feature = "alloc")]
 #[test]
-fn a_pack_and_a_string_stay_as_they_were_when_they_refuse() {
+fn a_refused_join_leaves_the_pack_as_it_was() {
     let mut pack = Pack::new();
     pack.join(&T).unwrap();
     let before = pack.clone();
     assert_eq!(pack.join(&[0, 1, 2, 1]), Err(Error::NotParents { entry: 4 }));
-    assert_eq!(pack.join(&[]), Err(Error::WrongSize));
-    assert_eq!(pack.join(&[0; MOST_NODES + 1]), Err(Error::WrongSize));
+    assert_eq!(pack.join(&[]), Err(wrong_nodes(0)));
+    assert_eq!(pack.join(&[0; MOST_NODES + 1]), Err(wrong_nodes(65_536)));
+    assert_eq!(pack.join(&path(65_535)), Err(Error::WrongSize(Size::JoinedBits { bits: 131_086 })));
     assert_eq!(pack, before);
+    pack.join(&[0]).unwrap();
+    assert_eq!(pack.parent_lists().unwrap(), [T.to_vec(), vec![0]]);
 
-    let too_long = TreeString { bytes: vec![0xBB, 0x20], bits: usize::MAX };
-    assert_eq!(too_long.parents(), Err(Error::WrongSize));
+    let mut full = Pack::new();
+    for _ in 0..MOST_TREES {
+        full.join(&[0]).unwrap();
+    }
+    let before = full.clone();
+    assert_eq!(full.join(&[0]), Err(Error::WrongSize(Size::TreesBefore { trees: 256 })));
+    assert_eq!(full, before);
+}
+
+#[cfg(feature = "alloc")]
+#[test]
+fn strings_and_packs_that_were_received_are_refused_where_they_are_none() {
+    let string = |bytes: &[u8], bits| TreeString::received(bytes.to_vec(), bits).unwrap_err();
+    assert_eq!(string(&[0xBB, 0x20], usize::MAX), Error::WrongSize(Size::Bits { bits: usize::MAX }));
+    assert_eq!(string(&[0xBB], 15), Error::WrongSize(Size::Bytes { bytes: 1, bits: 15 }));
+    assert_eq!(string(&[0xBB, 0x21], 15), Error::LeftoverSet);
+    assert_eq!(string(&[0xBB, 0x20], 16), Error::NotString { bit: 16 });
+    assert_eq!(string(&[0xBB, 0x20], 14), Error::EndsTooEarly { bits: 14 });
+    assert_eq!(string(&[], 0), Error::EndsTooEarly { bits: 0 });
+    assert_eq!(TreeString::of_parents(&[]), Err(wrong_nodes(0)));
+    assert_eq!(TreeString::of_parents(&[0; MOST_NODES + 1]), Err(wrong_nodes(65_536)));
+
+    let pack = |bytes: &[u8], bits, trees| Pack::received(bytes.to_vec(), bits, trees).unwrap_err();
+    assert_eq!(pack(&[0b1001_0000], 6, usize::MAX), Error::WrongSize(Size::Trees { trees: usize::MAX }));
+    assert_eq!(pack(&[0b1001_0000], 6, 1), Error::OtherTrees { found: 2 });
+    assert_eq!(pack(&[0b1001_0000], 5, 2), Error::EndsTooEarly { bits: 5 });
+}
+
+#[test]
+fn every_refusal_is_one_sentence() {
+    let sentences = [
+        (Error::NoRoom, "an output has too little room"),
+        (Error::NotParents { entry: 4 }, "entry 4: no parent list has this number here"),
+        (Error::NotString { bit: 7 }, "bit 7: no tree string has these bits up to here"),
+        (Error::EndsTooEarly { bits: 0 }, "after 0 bits the tree is not over"),
+        (Error::EndsTooEarly { bits: 1 }, "after 1 bit the tree is not over"),
+        (Error::LeftoverSet, "a bit after the last one, in the same byte, is set"),
+        (Error::WrongSums { block: 3 }, "block 3 of the image is damaged"),
+        (Error::NotImage, "no block is damaged, but no tree gives this image"),
+        (Error::NotAllowed { question: 700 }, "question 700: its kind, node or argument is not allowed"),
+        (Error::NoSuchNode { node: 9 }, "the tree has no node 9"),
+        (Error::TooDeep { node: 65 }, "node 65 is at depth 64, but a listing ends at depth 63"),
+        (Error::OtherTrees { found: 1 }, "the pack has 1 tree, which is not the number given"),
+        (Error::OtherTrees { found: 2 }, "the pack has 2 trees, which is not the number given"),
+        (Error::Unlisted { code: 11, place: 5 }, "code 11, place 5, which this crate does not know"),
+    ];
+    for (error, sentence) in sentences {
+        assert_eq!(error.to_string(), sentence);
+    }
+    let sizes = [
+        (Size::Nodes { nodes: 0 }, "a parent list of 0 numbers, but a tree has 1 to 65535 nodes"),
+        (Size::Bits { bits: 131_072 }, "131072 bits, but a tree string or a pack has at most 131071"),
+        (Size::Bytes { bytes: 3, bits: 15 }, "3 bytes for 15 bits, but they take exactly 2 bytes"),
+        (Size::Bytes { bytes: 2, bits: 8 }, "2 bytes for 8 bits, but they take exactly 1 byte"),
+        (Size::TooFewBytes { bytes: 1, bits: 9 }, "1 byte for a pack of 9 bits, but it takes 2 bytes"),
+        (Size::Trees { trees: 257 }, "257 trees, but a pack has at most 256"),
+        (Size::TreesBefore { trees: 256 }, "one more tree after 256, but a pack has at most 256"),
+        (Size::JoinedBits { bits: 131_073 }, "the joined pack would have 131073 bits, but a pack has at most 131071"),
+        (Size::ImageBytes { bytes: 1 }, "an image of 1 byte, but an image is whole blocks of 512 bytes"),
+        (Size::ImageBlocks { blocks: 54 }, "an image of 54 blocks, but an image has 5 to 53"),
+        (Size::QuestionNumbers { numbers: 2 }, "2 numbers, but each question takes 3"),
+        (Size::Questions { questions: 257 }, "257 questions, but one call answers at most 256"),
+        (Size::Unlisted, "a count, a length or a number of blocks is outside its limits"),
+    ];
+    for (size, sentence) in sizes {
+        assert_eq!(size.to_string(), sentence);
+        assert_eq!(Error::WrongSize(size).to_string(), sentence);
+        assert_eq!((Error::WrongSize(size).code(), Error::WrongSize(size).place()), (2, 0));
+    }
+}
+
+#[test]
+fn a_refusal_is_an_error_of_rust() {
+    fn named(node: u32) -> std::result::Result<Node, Box<dyn std::error::Error + Send + Sync>> {
+        Ok(Node::try_from(node)?)
+    }
+    assert_eq!(named(0).unwrap_err().to_string(), "the tree has no node 0");
+    assert_eq!(named(1).unwrap(), Node::ROOT);
 }

@@ -1,16 +1,51 @@
-//! What several tests need.
+//! What several tests need. Each of them uses only a part of it.
+#![allow(dead_code)]
 
-use parlaqen::seal;
-
-/// The tree T of document 01.
+/// The tree T of `docs/FORMAT.md`.
 pub const T: [u32; 7] = [0, 1, 1, 1, 2, 2, 4];
 
 /// T's image.
 pub fn image_of_t() -> Vec<u8> {
-    seal(&T).unwrap()
+    image_of(&T)
+}
+
+/// The image of a parent list.
+pub fn image_of(parents: &[u32]) -> Vec<u8> {
+    let mut image = vec![0; parlaqen::size::image_room(parents.len())];
+    let counts = parlaqen::image_of_parents(parents, &mut image).unwrap();
+    image.truncate(counts.image_bytes());
+    image
 }
 
 /// Each node below the one before it.
 pub fn path(nodes: u32) -> Vec<u32> {
     (0..nodes).collect()
+}
+
+/// All other nodes below the first one.
+pub fn star(nodes: u32) -> Vec<u32> {
+    (0..nodes).map(|i| u32::from(i > 0)).collect()
+}
+
+/// Two nodes below each, as long as there are nodes.
+pub fn binary(nodes: u32) -> Vec<u32> {
+    (0..nodes).map(|i| i.div_ceil(2)).collect()
+}
+
+/// Some tree of so many nodes, the same for the same seed.
+pub fn random(nodes: u32, seed: u64) -> Vec<u32> {
+    let mut state = seed;
+    let mut below = |end: u32| {
+        state = state.wrapping_mul(6_364_136_223_846_793_005).wrapping_add(1_442_695_040_888_963_407);
+        ((state >> 33) % u64::from(end)) as u32
+    };
+    let mut parents = vec![0];
+    let mut parent = 1;
+    for node in 2..=nodes {
+        // mostly the same parent again or the next one, seldom one further on, and never the node itself
+        let step = [0, 0, 0, 1, 1, 1, 2, 3][below(8) as usize];
+        parent = (parent + step).min(node - 1);
+        parents.push(parent);
+    }
+    parents
 }

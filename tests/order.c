@@ -1,15 +1,15 @@
-/* Each of the nine calls once through the header, done, and one refusal: with lists and numbers that are all different, so
- * that two parameters of a call, or two fields of the answer, that the header had in another order than the library would
- * give other answers or other lists. It is used by tools/test-product, which compiles it with every such exchange and
- * expects that it is seen, and not among the examples, since it shows nobody how to use the calls.
+/* Each of the nine calls once through the header, done, and one refusal: with lists and numbers that are all different,
+ * so that two parameters of a call, or two fields of the answer, that the header had in another order than the library
+ * would give other answers or other lists. tests/order.sh compiles it with every such exchange and expects that it is
+ * seen. It is not among the examples, since it shows nobody how to use the calls.
  *
- * What is expected is that of docs/FORMAT.md: T has parents 0 1 1 1 2 2 4, string 101110110010000 (bytes BB 20) and m = 4;
- * the path 0 1 2 has string 1010100. Exit status: 0 if all is as expected. */
+ * What is expected is that of docs/FORMAT.md: T has parents 0 1 1 1 2 2 4, string 101110110010000 (bytes BB 20) and
+ * m = 4; the path 0 1 2 has string 1010100. Exit status: 0 if all is as expected. */
 #include <parlaqen.h>
 #include <stdio.h>
 #include <string.h>
 
-/* Every list is far longer than it is said to be: a length that comes from the wrong place does no harm before it is seen.
+/* Every list is far longer than it is said to be: a length that comes from the wrong place does no harm before that.
  * What no call writes keeps the value 0xEE in every byte. */
 enum { ROOM = 4096 };
 static uint8_t image[ROOM], pack[ROOM];
@@ -48,7 +48,8 @@ static void afresh(void)
 int main(void)
 {
     static const uint32_t t[] = {0, 1, 1, 1, 2, 2, 4}, no_list[] = {0, 1, 2, 1}, path[] = {0, 1, 2};
-    static const uint8_t string_of_t[] = {0xBB, 0x20}, t_and_one[] = {0xBB, 0x21, 0x00}, t_and_path[] = {0xBB, 0x21, 0x50};
+    static const uint8_t string_of_t[] = {0xBB, 0x20};
+    static const uint8_t t_and_one[] = {0xBB, 0x21, 0x00}, t_and_path[] = {0xBB, 0x21, 0x50};
     static const int32_t asked[] = {PLQ_PARENT, 7, 0, PLQ_CHILD_NUMBER, 2, 2};
     static const uint32_t sums[][2] = {{17, 2112}, {151, 18876}, {211, 26377}, {4, 504}, {5, 630}};
     static const uint32_t answered[] = {4, 6}, listed[] = {2, 0, 5, 1, 6, 1}, starts[] = {1, 16}, sizes[] = {7, 1};
@@ -66,7 +67,8 @@ int main(void)
     expect("its parents", has(first_list, t, sizeof t));
 
     expect("plq_image_of_parents", answers(plq_image_of_parents(parents, 7, image, 3000), PLQ_DONE, 0, 7, 4));
-    for (size_t block = 0; block < 5; block++) expect("its sums", memcmp(image + 512 * block + 504, sums[block], 8) == 0);
+    for (size_t block = 0; block < 5; block++)
+        expect("its sums", memcmp(image + 512 * block + 504, sums[block], 8) == 0);
 
     afresh();
     expect("plq_parents_of_image", answers(plq_parents_of_image(image, 2560, first_list, 9), PLQ_DONE, 0, 7, 0));

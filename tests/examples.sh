@@ -1,0 +1,85 @@
+# The examples: what they print of good input and of bad, and how long they hold the lock.
+
+for name in seal phone watch; do
+    compile "$root/examples/$name.c" strict -Wconversion -Wshadow -Wcast-qual -Wwrite-strings -pedantic
+done
+passed "the examples compile without a warning"
+
+cmp "$expected/diary.plq" diary.plq
+seal <"$root/examples/diary.txt" | cmp "$expected/diary.plq"
+passed "seal: the image of the example diary, byte for byte"
+
+phone diary.plq 13 >phone.txt
+same "phone" "$expected/phone.txt" phone.txt
+passed "phone: seasons, weeks, and all kinds of questions"
+
+watch >watch.txt
+same "watch" "$expected/watch.txt" watch.txt
+for ((bit = 1; bit <= 27; bit++)); do
+    if watch "$bit" >changed.txt 2>&1; then fail "watch: changed bit $bit went unnoticed"; fi
+    grep -q '^splitting: refused ' changed.txt || fail "watch: changed bit $bit: $(cat changed.txt)"
+done
+passed "watch: joined, split and read back; each changed bit refused"
+
+# Runs each command of the stored transcript again: the command, what it says, how it ends.
+cp "$root/examples/diary.txt" .
+: >empty.plq
+mkdir folder
+head -c 2559 diary.plq >short.plq
+head -c 2048 diary.plq >four-blocks.plq
+cat diary.plq diary.txt >longer.plq
+head -c 2560 /dev/zero >zeros.plq
+head -c 27648 /dev/zero >54-blocks.plq
+head -c 10000000 /dev/zero >huge.plq
+for block in 0 1 2 3 4; do
+    cp diary.plq "damaged-$block.plq"
+    printf '\377' | dd of="damaged-$block.plq" bs=1 seek=$((512 * block + 300)) conv=notrunc status=none
+done
+# each block whole and at its right place, but one of them from another image
+cp diary.plq mixed.plq
+echo 0 1 1 1 2 2 4 | seal | dd of=mixed.plq bs=512 skip=1 seek=1 count=1 iflag=fullblock conv=notrunc status=none
+seq 0 64 | seal >path-of-65.plq
+awk 'BEGIN { print 0; for (i = 2; i <= 65535; i++) print 1 }' >65535-nodes.txt
+awk 'BEGIN { print 0; for (i = 2; i <= 65536; i++) print 1 }' >65536-nodes.txt
+awk 'BEGIN { print 0; for (i = 2; i <= 999999; i++) print 1 }' >999999-nodes.txt
+
+while read -r command; do
+    echo "\$ $command"
+    status=0
+    eval "$command" 2>&1 || status=$?
+    echo "exit $status"
+done < <(sed -n 's/^\$ //p' "$expected/refusals.txt") >refusals.txt
+same "refusals" "$expected/refusals.txt" refusals.txt
+passed "refusals: $(grep -c '^\$' refusals.txt) commands with bad texts and containers, each message and exit status"
+
+# The lock covers the copying and nothing else: the phone goes to sleep in the middle of a diary that no pipe can hold.
+replaced_while_shown() { # PHONE SECONDS: within so many seconds the container is replaced while PHONE shows its diary
+    local first status=0
+    seal 65535-nodes.txt container.plq
+    rm -f screen
+    mkfifo screen
+    "$1" container.plq >screen 2>/dev/null &
+    exec 3<screen
+    read -r first <&3
+    [ "$first" = "a diary of 65535 nodes, 1 of them with others below" ] || fail "phone: began with '$first'"
+    timeout "$2" "$bin/seal" diary.txt container.plq || status=$?
+    exec 3<&-
+    wait $! || true # its screen is gone, and it may end by that
+    return $status
+}
+replaced_while_shown "$bin/phone" 20 || fail "phone: the container stays locked while the diary is shown"
+cmp "$expected/diary.plq" container.plq
+grep -v '^    unlock_container(lock);$' "$root/examples/phone.c" >phone-that-keeps-the-lock.c
+compile phone-that-keeps-the-lock.c phone-that-keeps-the-lock -I"$root/examples"
+if replaced_while_shown ./phone-that-keeps-the-lock 1; then fail "locks: a phone that keeps the lock is not seen"; fi
+passed "locks: the container is free while the phone shows its copy; a phone that keeps the lock is seen"
+
+# two diaries of different lengths take turns in one container while it is read
+awk 'BEGIN { print "0 1 2"; for (i = 4; i <= 9000; i++) print 3 }' >long-week.txt
+(while [ ! -e enough ]; do seal long-week.txt container.plq && seal diary.txt container.plq; done) &
+for ((reading = 1; reading <= 100; reading++)); do
+    phone container.plq >reading.txt 2>&1 || { touch enough && fail "phone: a torn copy: $(cat reading.txt)"; }
+done
+touch enough
+wait $!
+passed "locks: 100 copies of a container while it was being replaced, all of them whole"

@@ -1,0 +1,55 @@
+# A kill of `seal`, at whatever moment, leaves the old diary or the new one in the container, whole, and the lock free.
+
+awk 'BEGIN { print "0 1 2"; for (i = 4; i <= 9000; i++) print 3 }' >new-diary.txt
+cp diary.plq old.plq
+seal new-diary.txt new.plq
+if cmp -s old.plq new.plq; then fail "kills: the old diary and the new one are the same"; fi
+
+container_after() { # WHAT: the container has the old diary or the new one, which phone shows; says which, or fails
+    timeout 20 "$bin/phone" kept.plq >shown.txt 2>&1 || { echo "after $1: $(tail -n 1 shown.txt)" && return 1; }
+    if cmp -s kept.plq old.plq; then echo old; elif cmp -s kept.plq new.plq; then echo new; else return 1; fi
+}
+
+# Kills PROGRAM at its first system call, at its second, and so on until it ends by itself: by then it was killed at every
+# moment that others can tell apart, since files change by system calls alone. Prints a line for each container found.
+killed_everywhere() { # PROGRAM
+    local stop=0 status=0
+    while [ $status = 0 ]; do
+        stop=$((stop + 1))
+        cp old.plq kept.plq
+        ./kill_at $stop "$1" new-diary.txt kept.plq || status=$?
+        [ $status -le 1 ] || return $status
+        container_after "a kill at stop $stop" || return 1
+    done
+}
+
+gcc -std=c11 -Wall -Wextra -Werror -O2 "$root/tests/kill_at.c" -o kill_at
+status=0
+killed_everywhere "$bin/seal" >found.txt || status=$?
+case $status in
+0)
+    old=$(grep -c '^old$' found.txt) && new=$(grep -c '^new$' found.txt) || fail "kills: only one of the two diaries was found"
+    passed "kills: at every entry and end of a system call, $((old + new)) moments: $old times the old diary, $new times the new one"
+    # a program that writes the container itself, as the first one did: torn in between
+    sed 's/name_beside(container, ".new", new_name)/name_beside(container, "", new_name)/' "$root/examples/seal.c" >seal-in-place.c
+    if cmp -s "$root/examples/seal.c" seal-in-place.c; then fail "kills: seal.c has no new file to take away"; fi
+    compile seal-in-place.c seal-in-place -I"$root/examples"
+    if killed_everywhere ./seal-in-place >found.txt; then fail "kills: writing the container in place is not seen"; fi
+    passed "kills: a program that writes the container in place is seen: $(tail -n 1 found.txt)"
+    ;;
+3) echo "not tried, since no program may follow another one here: kills at every system call" ;;
+*) fail "kills: $(tail -n 1 found.txt)" ;;
+esac
+
+# The same by the clock: the two diaries take turns, and each sealing is killed after some time of up to 5 milliseconds.
+RANDOM=7
+cp old.plq kept.plq
+for ((turn = 1; turn <= 100; turn++)); do
+    if ((turn % 2)); then text=new-diary.txt; else text=$root/examples/diary.txt; fi
+    "$bin/seal" "$text" kept.plq &
+    sleep "$(printf '0.%04d' $((RANDOM % 50)))"
+    kill -KILL $! 2>/dev/null || true
+    wait $! 2>/dev/null || true
+    container_after "kill $turn by the clock" || fail "kills: $(cat shown.txt)"
+done >found.txt
+passed "kills: 100 by the clock, $(grep -c '^old$' found.txt) times the old diary, $(grep -c '^new$' found.txt) times the new one"
