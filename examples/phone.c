@@ -11,12 +11,11 @@
  *
  * The copy is as it was when it was made. Who wants to see newer laps copies again; a sealed diary is never edited, so
  * there is nothing to merge. The check comes after the copy, since damage is found in the copy as well as in the file.
- * Exit status: 0 shown, 1 refused by the library, 2 the container could not be read. */
-#define _DEFAULT_SOURCE /* flock */
+ * Exit status: 0 shown, 1 refused by the library, 2 wrong words, or the container could not be read or shown. */
+#define _DEFAULT_SOURCE
 #include "container.h"
 #include "refusal.h"
 #include <stdlib.h>
-#include <string.h>
 
 enum { DIARY, SEASON, WEEK, RUN, LAP }; /* depths */
 
@@ -38,14 +37,19 @@ static ssize_t read_file(const char *name, uint8_t *bytes, size_t room)
     return got < 0 ? -1 : (ssize_t)size;
 }
 
-/* Locks, copies, unlocks: the lock begins and ends in this function. */
-static ssize_t copy_container(const char *name, uint8_t *copy, size_t room)
+/* Locks, copies, unlocks: the lock begins and ends in this function. Gives 0, or the exit status after a message. */
+static int copy_container(const char *name, uint8_t *copy, size_t room, size_t *size)
 {
     int lock = lock_container(name, LOCK_SH);
-    if (lock < 0 && errno != ENOENT) return -1;
-    ssize_t size = read_file(name, copy, room);
+    if (lock < 0 && errno != ENOENT) return not_locked(name);
+    ssize_t got = read_file(name, copy, room);
     unlock_container(lock);
-    return size;
+    if (got < 0) {
+        fprintf(stderr, "%s: %s\n", name, strerror(errno));
+        return 2;
+    }
+    *size = (size_t)got;
+    return 0;
 }
 
 /* A line for each season and week, with the number of weeks, runs and laps in it: all from one listing. */
@@ -117,17 +121,16 @@ int main(int words, char **word)
         fputs("usage: phone CONTAINER [NODE]\n", stderr);
         return 2;
     }
-    ssize_t size = copy_container(word[1], copy, sizeof copy);
-    if (size < 0) {
-        fprintf(stderr, "%s: %s\n", word[1], strerror(errno));
-        return 2;
-    }
+    size_t size;
+    int status = copy_container(word[1], copy, sizeof copy, &size);
+    if (status != 0) return status;
 
     /* from here on nothing is locked */
-    plq_answer checked = plq_check_image(copy, (size_t)size);
+    plq_answer checked = plq_check_image(copy, size);
     if (checked.code != PLQ_DONE) return refused(word[1], checked);
     unsigned nodes = checked.first, with_children = checked.second - 1;
     printf("a diary of %u nodes, %u of them with others below\n", nodes, with_children);
-    int status = show_seasons(copy, (size_t)size);
-    return status ? status : show_around(copy, (size_t)size, (int32_t)node);
+    status = show_seasons(copy, size);
+    if (status == 0) status = show_around(copy, size, (int32_t)node);
+    return status != 0 ? status : shown();
 }

@@ -9,13 +9,18 @@
  * disk, and only then a rename gives it the container's name. A rename happens or does not happen. So whoever ends this
  * program, at whatever moment, leaves the old diary whole or the new one, and so does a loss of power. CONTAINER.new
  * belongs to the holder of the lock: what a killed program left there is written over by the next one.
- * The image is made before the lock is taken; the lock is held while at most 27,136 bytes are written and renamed.
- * Exit status: 0 sealed, 1 refused by the library, 2 no parent numbers could be read or no image written. */
-#define _DEFAULT_SOURCE /* flock */
+ *
+ * The image is made before the lock is taken, and the lock is held while at most 27,136 bytes are written, brought to
+ * the disk and renamed. So this program replaces whatever is there. One that makes its diary from the one in the
+ * container must hold the lock from reading to renaming, or compare under the lock, and begin again if the container
+ * is no longer what it read: else what another one sealed in between is lost.
+ * Exit status: 0 sealed, 1 refused by the library, 2 no parent numbers could be read, or the container is as it was,
+ * 3 the container was replaced, but a loss of power may undo it. */
+#define _DEFAULT_SOURCE
 #include "container.h"
 #include "refusal.h"
 #include <ctype.h>
-#include <string.h>
+#include <sys/stat.h>
 
 enum { ROOM = PLQ_MOST_NODES + 1 }; /* one too many, so that a diary that is too large is refused by the library */
 
@@ -64,20 +69,38 @@ static int write_all(int file, const uint8_t *bytes, size_t count)
     while (count > 0) {
         ssize_t written = write(file, bytes, count);
         if (written < 0 && errno == EINTR) continue;
-        if (written < 0) return -1;
+        if (written == 0) errno = EIO;
+        if (written <= 0) return -1;
         bytes += written;
         count -= (size_t)written;
     }
     return 0;
 }
 
-/* Writes a file and returns when its bytes are on the disk, so that no rename can come before them. */
-static int write_to_disk(const char *name, const uint8_t *bytes, size_t count)
+/* Returns when what was written is on the disk, and on Apple's systems not only in the disk's own memory. */
+static int to_disk(int file)
 {
-    int file = open(name, O_WRONLY | O_CREAT | O_TRUNC | O_CLOEXEC, 0666);
+#ifdef F_FULLFSYNC
+    if (fcntl(file, F_FULLFSYNC) == 0) return 0;
+#endif
+    return fsync(file);
+}
+
+/* Gives a new file the permissions of the one that it will replace, if there is one. */
+static int permissions_of(const char *replaced, int file)
+{
+    struct stat old;
+    return stat(replaced, &old) < 0 ? 0 : fchmod(file, old.st_mode & 0777);
+}
+
+/* Writes the file that will replace the container, and returns when it is on the disk: no rename can come before. */
+static int write_new(const char *new_name, const char *container, const uint8_t *bytes, size_t count)
+{
+    int file = open(new_name, O_WRONLY | O_CREAT | O_TRUNC | O_CLOEXEC, 0666);
     if (file < 0) return -1;
-    int written = write_all(file, bytes, count);
-    if (written == 0) written = fsync(file);
+    int written = permissions_of(container, file);
+    if (written == 0) written = write_all(file, bytes, count);
+    if (written == 0) written = to_disk(file);
     int error = errno;
     if (close(file) < 0 && written == 0) return -1;
     errno = error;
@@ -93,7 +116,7 @@ static int folder_to_disk(const char *container)
     if (slash) slash[1] = '\0';
     int file = open(slash ? folder : ".", O_RDONLY | O_DIRECTORY | O_CLOEXEC);
     if (file < 0) return -1;
-    int done = fsync(file), error = errno;
+    int done = to_disk(file), error = errno;
     close(file);
     errno = error;
     return done;
@@ -111,13 +134,16 @@ static int replace_container(const char *container, const uint8_t *image, size_t
     char new_name[PATH_MAX];
     if (name_beside(container, ".new", new_name) < 0) return failed(container);
     int lock = lock_container(container, LOCK_EX);
-    if (lock < 0) return failed(container);
-    int replaced = write_to_disk(new_name, image, size);
+    if (lock < 0) return not_locked(container);
+    int replaced = write_new(new_name, container, image, size);
     if (replaced == 0) replaced = rename(new_name, container);
     if (replaced < 0) remove_keeping_errno(new_name);
     unlock_container(lock);
-    if (replaced == 0) replaced = folder_to_disk(container);
-    return replaced == 0 ? 0 : failed(container);
+    if (replaced < 0) return failed(container);
+    if (folder_to_disk(container) == 0) return 0;
+    failed(container);
+    fputs("the container was replaced, but a loss of power may undo it\n", stderr);
+    return 3;
 }
 
 int main(int words, char **word)

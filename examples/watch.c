@@ -3,10 +3,12 @@
  *
  *     watch [BIT]     with BIT that bit, from 1, is changed on the way
  *
- * The phone is told the number of bits and of days beside the pack: neither is in its bytes. Where the number of days
- * is known, no odd number of changed bits goes unnoticed. What was damaged on the way may still be a right pack of
- * larger or smaller days, so the phone's buffers have room for any tree that such a pack can hold.
- * Exit status: 0 all days read back, 1 refused by the library, 2 there is no such bit. */
+ * The phone is told the number of bits and of days beside the pack: neither is in its bytes. How many bytes there are
+ * it counts itself, and leaves it to the library to find that they are not as many as the bits take: computed from a
+ * number of bits that was damaged on the way, it would be a length that is not there.
+ * Where the number of days is known, no odd number of changed bits goes unnoticed. What was changed may still be a
+ * right pack of larger or smaller days, so the phone's buffers have room for any tree that such a pack can hold.
+ * Exit status: 0 all days read back, 1 refused by the library, 2 there is no such bit, or not all could be shown. */
 #include "refusal.h"
 #include <stdlib.h>
 #include <string.h>
@@ -27,7 +29,7 @@ static void move_part(const uint8_t *pack, size_t start, size_t bits, uint8_t *p
 {
     memset(part, 0, PLQ_BYTES_OF_BITS(bits));
     for (size_t to = 0, from = start - 1; to < bits; to++, from++)
-        if (pack[from / 8] & 0x80 >> from % 8) part[to / 8] |= (uint8_t)(0x80 >> to % 8);
+        if (pack[from / 8] & (0x80 >> from % 8)) part[to / 8] |= (uint8_t)(0x80 >> to % 8);
 }
 
 int main(int words, char **word)
@@ -42,9 +44,12 @@ int main(int words, char **word)
         trees = joined.second;
     }
 
+    size_t sent = PLQ_BYTES_OF_BITS(bits); /* by the watch, who made the pack */
+
     if (words > 1) {
-        unsigned long changed = strtoul(word[1], NULL, 10);
-        if (changed < 1 || changed > bits) {
+        char *end;
+        unsigned long changed = strtoul(word[1], &end, 10);
+        if (words > 2 || *end || changed < 1 || changed > bits) {
             fprintf(stderr, "usage: watch [BIT], with a bit from 1 to %zu\n", bits);
             return 2;
         }
@@ -53,7 +58,7 @@ int main(int words, char **word)
     printf("%zu days in %zu bits\n", trees, bits);
 
     uint32_t starts[DAYS], sizes[DAYS];
-    plq_answer split = plq_split(pack, PLQ_BYTES_OF_BITS(bits), bits, trees, starts, DAYS, sizes, DAYS);
+    plq_answer split = plq_split(pack, sent, bits, trees, starts, DAYS, sizes, DAYS);
     if (split.code != PLQ_DONE) return refused("splitting", split);
     for (size_t day = 0; day < DAYS; day++) {
         uint8_t part[PACK_BYTES]; /* no part is longer than the pack */
@@ -66,5 +71,5 @@ int main(int words, char **word)
         for (size_t node = 0; node < read.first; node++) printf(" %u", (unsigned)parents[node]);
         printf("\n");
     }
-    return 0;
+    return shown();
 }

@@ -4,10 +4,12 @@
  * each node, in that order, the number of its parent, and 0 for the root.
  *
  * Every call takes whatever bytes and numbers it is handed, ends, and answers by value. A refused call changes no byte
- * of any buffer lent to it; a call that is done leaves what lies after its result as it was. A list is a pointer and
- * then its number of elements. Lists lent to one call do not overlap; an empty one may come with any pointer, NULL too.
- * Bytes may lie anywhere, numbers as C wants them aligned. Nothing is kept between calls and nothing is allocated:
- * calls may run at the same time, on one image too, as long as none of them writes where another reads or writes.
+ * of any buffer lent to it; a call that is done leaves what lies after its result as it was.
+ *
+ * A list is a pointer and then its number of elements; an empty one may come with any pointer, NULL too. Bytes may lie
+ * anywhere, numbers as C wants them aligned. Lists lent to one call do not overlap, and nobody else changes them until
+ * the call has ended: a mapped file that others write is copied first. Nothing is kept between calls and nothing is
+ * allocated, so calls may run at the same time, on one image too.
  *
  * docs/INTEGRATE.md has the sizes of buffers, the stack that a call takes, and where the data of a node live.
  */
@@ -43,9 +45,9 @@ extern "C" {
 /* How a call ended. Where several refusals hold, the one further up in this list is answered. */
 enum plq_code {
     PLQ_DONE = 0,         /* not refused; place 0 */
-    PLQ_WRONG_SIZE = 2,   /* a count, a length or a number of blocks is outside its limits; place 0 */
-    PLQ_WRONG_SUMS = 6,   /* a block of the image is damaged; place: the lowest such block, from 0 */
-    PLQ_NOT_IMAGE = 7,    /* no block is damaged, but no tree gives this image; place 0 */
+    PLQ_WRONG_SIZE = 2,   /* a count or a length is outside its limits, or two do not fit each other; place 0 */
+    PLQ_WRONG_SUMS = 6,   /* a block of the image has wrong sums; place: the lowest such block, from 0 */
+    PLQ_NOT_IMAGE = 7,    /* all sums are right, but no tree gives this image; place 0 */
     PLQ_LEFTOVER_SET = 5, /* a bit after the last one, in the same byte, is set; place 0 */
     PLQ_NOT_STRING = 4,   /* no tree string (pack: no strings end to end); place: the first bit, from 1, up to which the
                              bits begin none, or one more than there are bits */
@@ -81,7 +83,8 @@ enum {
 };
 
 /* Sizes of buffers, for n from 1 to PLQ_MOST_NODES and m from 1 to n. Each is of type size_t, and a constant expression
- * if its arguments are. An argument may be evaluated more than once.
+ * if its arguments are, but for #if. An argument may be evaluated more than once. The counts of a refusal are 0, and no
+ * tree has n = 0: look at the code first.
  *
  * PLQ_IMAGE_BYTES(n, m)    bytes of the image of a tree, by the two counts of sealing and of the check
  * PLQ_IMAGE_ROOM(n)        bytes that are enough for the image of any tree of n nodes
@@ -101,7 +104,7 @@ enum {
 /* For the sizes above alone: how many shares of `share` each are needed for `all`; and a number as a size. */
 #define PLQ_SHARES_(all, share) (PLQ_SIZE_(all) / (share) + (PLQ_SIZE_(all) % (share) != 0))
 #ifdef __cplusplus
-#define PLQ_SIZE_(number) (static_cast<size_t>(number))
+#define PLQ_SIZE_(number) (static_cast<size_t>(+(number))) /* the sign makes a number of an enumerator */
 #else
 #define PLQ_SIZE_(number) ((size_t)(number))
 #endif
@@ -126,7 +129,8 @@ typedef struct {
  * Refusals: PLQ_WRONG_SIZE, PLQ_NOT_PARENTS, PLQ_NO_ROOM. */
 PLQ_MUST_USE plq_answer plq_string_of_parents(const uint32_t *parents, size_t n, uint8_t *bytes, size_t room);
 
-/* A tree string of `bits` bits, in exactly PLQ_BYTES_OF_BITS(bits) bytes, back to its parents.
+/* A tree string of `bits` bits, in exactly PLQ_BYTES_OF_BITS(bits) bytes, back to its parents. `nbytes` says how many
+ * bytes are there: never compute it from a number of bits that came with them.
  * Refusals: PLQ_WRONG_SIZE, PLQ_LEFTOVER_SET, PLQ_NOT_STRING, PLQ_NO_ROOM. */
 PLQ_MUST_USE plq_answer plq_parents_of_string(const uint8_t *bytes, size_t nbytes, size_t bits, uint32_t *parents,
                                               size_t room);
@@ -152,15 +156,16 @@ PLQ_MUST_USE plq_answer plq_ask(const uint8_t *image, size_t nbytes, const int32
                                 uint32_t *answers, size_t room);
 
 /* A pack, which is `trees` strings end to end, in exactly PLQ_BYTES_OF_BITS(bits) bytes: for each tree its first bit,
- * from 1, and its number of nodes. Its string is the PLQ_STRING_BITS(size) bits from there.
+ * from 1, and its number of nodes. Its string is the PLQ_STRING_BITS(size) bits from there; to read them, move them to
+ * the first bit of a buffer, with zeros after them. `nbytes` says how many bytes are there, as above.
  * Refusals: PLQ_WRONG_SIZE, PLQ_LEFTOVER_SET, PLQ_NOT_STRING, PLQ_OTHER_TREES, PLQ_NO_ROOM. */
 PLQ_MUST_USE plq_answer plq_split(const uint8_t *bytes, size_t nbytes, size_t bits, size_t trees, uint32_t *starts,
                                   size_t starts_room, uint32_t *sizes, size_t sizes_room);
 
-/* Adds one tree, given by its parents, after a pack in a buffer that may be longer than the pack. Earlier bits stay,
- * and so do the bytes after the new last one.
+/* Adds one tree, given by its parents, after a pack in a buffer that may be longer than the pack; an empty pack has 0
+ * bits and 0 trees. Earlier bits stay, and so do the bytes after the new last one.
  * Refusals: PLQ_WRONG_SIZE, PLQ_LEFTOVER_SET, PLQ_NOT_STRING, PLQ_OTHER_TREES, PLQ_NOT_PARENTS, PLQ_NO_ROOM. */
-PLQ_MUST_USE plq_answer plq_join(uint8_t *pack, size_t nbytes, size_t bits, size_t trees, const uint32_t *parents,
+PLQ_MUST_USE plq_answer plq_join(uint8_t *pack, size_t room, size_t bits, size_t trees, const uint32_t *parents,
                                  size_t n);
 
 /* After the whole check, node and depth, two numbers each, for `node` and everything below it: parents first, children
@@ -170,7 +175,8 @@ PLQ_MUST_USE plq_answer plq_list(const uint8_t *image, size_t nbytes, uint32_t n
 
 /* The rest is no part of the archive: it is compiled with the caller. */
 
-/* A question as plq_ask_questions takes it; `kind` is one of enum plq_kind. */
+/* A question as plq_ask_questions takes it; `kind` is one of enum plq_kind. An answer is at most 65,535: to ask on from
+ * there, a cast of it to int32_t loses nothing. */
 typedef struct {
     int32_t kind, node, argument;
 } plq_question;
@@ -186,7 +192,7 @@ PLQ_MUST_USE static inline plq_answer plq_ask_questions(const uint8_t *image, si
 #ifdef __cplusplus
     return plq_ask(image, nbytes, static_cast<const int32_t *>(numbers), 3 * counted, answers, room);
 #else
-    return plq_ask(image, nbytes, numbers, 3 * counted, answers, room);
+    return plq_ask(image, nbytes, (const int32_t *)numbers, 3 * counted, answers, room);
 #endif
 }
 
@@ -204,16 +210,16 @@ PLQ_MUST_USE static inline const char *plq_code_text(uint32_t code)
 {
     switch (code) {
     case PLQ_DONE: return "done";
-    case PLQ_WRONG_SIZE: return "a count, a length or a number of blocks is outside its limits";
-    case PLQ_WRONG_SUMS: return "a block of the image is damaged; the place is the lowest such block, from 0";
-    case PLQ_NOT_IMAGE: return "no block is damaged, but no tree gives this image";
+    case PLQ_WRONG_SIZE: return "a count or a length is outside its limits, or two do not fit each other";
+    case PLQ_WRONG_SUMS: return "a block of the image has wrong sums; the place is the lowest such block, from 0";
+    case PLQ_NOT_IMAGE: return "all sums are right, but no tree gives this image";
     case PLQ_LEFTOVER_SET: return "a bit after the last one, in the same byte, is set";
-    case PLQ_NOT_STRING: return "no tree string has these bits; the place is the first bit, from 1, that no string has "
-                                "there, or one more than there are bits";
+    case PLQ_NOT_STRING: return "the bits are no tree string, or in a pack no strings end to end; the place is the "
+                                "first bit, from 1, up to which they begin none, or one more than there are bits";
     case PLQ_OTHER_TREES: return "the pack has another number of trees; the place is the number found";
     case PLQ_NOT_PARENTS: return "no parent list has these numbers; the place is the lowest such entry, from 1";
     case PLQ_NOT_ALLOWED: return "a kind, node or argument is not allowed; the place is the lowest such question, "
-                                 "from 1";
+                                 "from 1, and 1 for a listing";
     case PLQ_TOO_DEEP: return "the listing would go below depth 63; the place is its first node at depth 64";
     case PLQ_NO_ROOM: return "an output has too little room";
     default: return "a code that this header does not know";

@@ -39,10 +39,12 @@ COMMANDS
 example_runs "$bin" >bad-use/plain.txt
 [ "$(grep -c ': exit 0$' bad-use/plain.txt)" = 4 ] || fail "bad use: of the examples' runs not just four are done"
 
-# Where the system puts programs at random over too wide a range, the sanitizers do not find their own place. The library
-# allocates nothing, and on some machines the search for leaks takes seconds at each end; valgrind, below, searches.
+# Where the system puts programs at random over too wide a range, the sanitizers do not find their own place. The
+# search for leaks takes seconds on some machines, and the library allocates nothing; valgrind, below, searches.
 under_sanitizers=(env ASAN_OPTIONS=detect_leaks=0)
-if setarch "$(uname -m)" -R true 2>/dev/null; then under_sanitizers=(setarch "$(uname -m)" -R "${under_sanitizers[@]}"); fi
+if setarch "$(uname -m)" -R true 2>/dev/null; then
+    under_sanitizers=(setarch "$(uname -m)" -R "${under_sanitizers[@]}")
+fi
 
 works() { # WORD: can this machine's compiler make a program with it, and does an empty one start, every time?
     local run

@@ -9,6 +9,12 @@ cmp "$expected/diary.plq" diary.plq
 seal <"$root/examples/diary.txt" | cmp "$expected/diary.plq"
 passed "seal: the image of the example diary, byte for byte"
 
+seal "$root/examples/diary.txt" private.plq
+chmod 640 private.plq
+seal "$root/examples/diary.txt" private.plq
+[ "$(stat -c %a private.plq)" = 640 ] || fail "seal: a new diary has other permissions than the old one"
+passed "seal: a new diary has the permissions of the old one"
+
 phone diary.plq 13 >phone.txt
 same "phone" "$expected/phone.txt" phone.txt
 passed "phone: seasons, weeks, and all kinds of questions"

@@ -1,29 +1,44 @@
-# The header: it compiles by itself, its sizes are the library's, and what is easily done wrong with it does not compile.
+# The header: it compiles by itself, what it adds agrees with the library, and what is easily done wrong is refused.
 
 strict=(-Wall -Wextra -Werror -pedantic -Wconversion -Wsign-conversion -Wshadow -Wcast-qual -Wundef)
 echo '#include <parlaqen.h>' >alone.c
 for standard in c99 c11 c17; do
-    gcc -std=$standard "${strict[@]}" -Wstrict-prototypes -I"$root/include" -fsyntax-only alone.c
+    gcc -std=$standard "${strict[@]}" -Wstrict-prototypes -Wc++-compat -I"$root/include" -fsyntax-only alone.c
 done
 passed "the header alone, as C of 1999, 2011 and 2017, without a warning"
+cat >in-cpp.cpp <<'IN_CPP'
+#include <parlaqen.h>
+enum { ROOM = 100 };
+constexpr size_t bits = PLQ_STRING_BITS(ROOM);
+static_assert(PLQ_IMAGE_BYTES(PLQ_MOST_NODES, PLQ_MOST_NODES) == PLQ_MOST_IMAGE_BYTES, "the largest image");
+static_assert(PLQ_BYTES_OF_BITS(bits) == PLQ_STRING_BYTES(ROOM) && PLQ_LISTING_NUMBERS(ROOM + 1) == 202, "sizes");
+uint8_t image[PLQ_IMAGE_ROOM(ROOM)];
+uint32_t first_child(int32_t node);
+uint32_t first_child(int32_t node)
+{
+    const plq_question question = {PLQ_FIRST_CHILD, node, 0};
+    uint32_t child = 0;
+    return plq_ask_questions(image, plq_image_bytes(image), &question, 1, &child, 1).code == PLQ_DONE ? child : 0;
+}
+IN_CPP
 if command -v g++ >/dev/null; then
     for standard in c++11 c++17 c++20; do
-        g++ -x c++ -std=$standard "${strict[@]}" -Wold-style-cast -I"$root/include" -fsyntax-only alone.c
+        g++ -std=$standard "${strict[@]}" -Wold-style-cast -I"$root/include" -fsyntax-only in-cpp.cpp
     done
-    passed "the header alone, as C++ of 2011, 2017 and 2020, without a warning"
+    passed "the header in C++ of 2011, 2017 and 2020, its sizes as constants, without a warning"
 else
-    echo "not tried, since there is no g++: the header alone, as C++"
+    echo "not tried, since there is no g++: the header in C++"
 fi
 
 # Its macros and inline functions beside what the library takes and gives.
 compile "$root/tests/header.c" header
 ./header
-passed "header: sizes of images, strings and listings are those of the library, for trees of 1 to 65,535 nodes; questions, texts"
+passed "header: its sizes are those of the library, for trees of 1 to 65,535 nodes; its questions, texts and version"
 
 fault_is_seen() { # WHAT SED-COMMAND: with the header so changed an assertion of tests/header.c fails, or its run
     mkdir -p with-a-fault
     sed "$2" "$root/include/parlaqen.h" >with-a-fault/parlaqen.h
-    if cmp -s "$root/include/parlaqen.h" with-a-fault/parlaqen.h; then fail "header: '$2' changes nothing in the header"; fi
+    if cmp -s "$root/include/parlaqen.h" with-a-fault/parlaqen.h; then fail "header: '$2' changes nothing in it"; fi
     if gcc -std=c11 -w -Iwith-a-fault "$root/tests/header.c" "$archive" -o with-fault 2>with-fault.txt; then
         if ./with-fault >with-fault.txt 2>&1; then fail "header: no run sees $1"; fi
     else
@@ -36,14 +51,14 @@ fault_is_seen "samples of each 65th one" 's/PLQ_SHARES_(m, 64)/PLQ_SHARES_(m, 65
 fault_is_seen "127 samples to a block" 's/, 64), 126)/, 64), 127)/'
 fault_is_seen "one list of samples" 's/2 \* PLQ_SHARES_(PLQ_SHARES_(m/1 * PLQ_SHARES_(PLQ_SHARES_(m/'
 fault_is_seen "an image without its header" 's/(PLQ_BLOCK_BYTES \* (1 + PLQ/(PLQ_BLOCK_BYTES * (0 + PLQ/'
-fault_is_seen "room for the least image" 's/PLQ_IMAGE_ROOM(n) PLQ_IMAGE_BYTES(n, n)/PLQ_IMAGE_ROOM(n) PLQ_IMAGE_BYTES(n, 1)/'
-fault_is_seen "a string without its last zero" 's/PLQ_STRING_BITS(n) (2 \* PLQ_SIZE_(n) + 1)/PLQ_STRING_BITS(n) (2 * PLQ_SIZE_(n))/'
+fault_is_seen "room for the least image" '/PLQ_IMAGE_ROOM(n) PLQ/s/BYTES(n, n)/BYTES(n, 1)/'
+fault_is_seen "a string without its last zero" 's/(2 \* PLQ_SIZE_(n) + 1)/(2 * PLQ_SIZE_(n))/'
 fault_is_seen "bytes rounded down" 's/ + (PLQ_SIZE_(all) % (share) != 0)//'
 fault_is_seen "bytes rounded up by an addition that wraps" \
     's|(PLQ_SIZE_(all) / (share) + (PLQ_SIZE_(all) % (share) != 0))|((PLQ_SIZE_(all) + (share) - 1) / (share))|'
 fault_is_seen "a listing of nodes without depths" 's/PLQ_LISTING_NUMBERS(n) (2 \*/PLQ_LISTING_NUMBERS(n) (1 */'
-fault_is_seen "the number of blocks from one byte" 's/for (int byte = 15; byte >= 12; byte--)/for (int byte = 12; byte >= 12; byte--)/'
-fault_is_seen "the number of blocks with its high byte first" 's/256 \* blocks + image\[byte\]/256 * blocks + image[27 - byte]/'
+fault_is_seen "the number of blocks from one byte" 's/int byte = 15; byte >= 12/int byte = 12; byte >= 12/'
+fault_is_seen "the number of blocks with its high byte first" 's/blocks + image\[byte\]/blocks + image[27 - byte]/'
 fault_is_seen "numbers in the place of questions" 's/numbers, 3 \* counted, answers/numbers, counted, answers/'
 fault_is_seen "two codes with one text" 's/case PLQ_NO_ROOM: return "[^"]*"/case PLQ_NO_ROOM: return "done"/'
 fault_is_seen "a code without a text" '/case PLQ_LEFTOVER_SET: return/d'
@@ -60,14 +75,15 @@ does_not_compile() { # MESSAGE LINE: with LINE in a function a program does not 
 }
 for line in 'plq_string_of_parents(list, 1, image, 1);' 'plq_parents_of_string(image, 1, 3, list, 1);' \
     'plq_image_of_parents(list, 1, image, 2560);' 'plq_parents_of_image(image, 2560, list, 1);' \
-    'plq_check_image(image, 2560);' 'plq_ask(image, 2560, 0, 0, list, 0);' 'plq_split(image, 0, 0, 0, list, 0, list, 0);' \
-    'plq_join(image, 1, 0, 0, list, 1);' 'plq_list(image, 2560, 1, list, 2);' 'plq_ask_questions(image, 2560, 0, 0, list, 0);' \
+    'plq_check_image(image, 2560);' 'plq_ask(image, 2560, 0, 0, list, 0);' \
+    'plq_split(image, 0, 0, 0, list, 0, list, 0);' 'plq_join(image, 1, 0, 0, list, 1);' \
+    'plq_list(image, 2560, 1, list, 2);' 'plq_ask_questions(image, 2560, 0, 0, list, 0);' \
     'plq_image_bytes(image);' 'plq_code_text(1);'; do
     does_not_compile "unused-result" "$line"
 done
 does_not_compile "incompatible-pointer-types" \
     'plq_question q = {PLQ_PARENT, 1, 0}; if (plq_ask(image, 2560, &q, 1, list, 1).code) return;'
-passed "header: an answer that nobody looks at is warned of, for each function; so is a question where numbers are wanted"
+passed "header: the compiler warns of an answer that nobody looks at, for each function, and of questions as numbers"
 
 # Header and crate compile only where a size has 64 bits. The same commands do compile them where it has.
 refused_for_size() { # MACHINE COMMAND..: compiling for MACHINE ends with the sentence on sizes, and with no other error
@@ -82,9 +98,10 @@ refused_for_size() { # MACHINE COMMAND..: compiling for MACHINE ends with the se
     }
 }
 
-# the compiler of the Rattle toolchain knows other machines than this one; gcc's own folder has the two headers, without a C library
-for_machine=("$(dirname "$(rt doc)")/../on/$(uname -m)/toolchain/bin/clang" -nostdinc -isystem "$(gcc -print-file-name=include)"
-    -I"$root/include" -ffreestanding -std=c11 -Wall -Wextra -Werror -fsyntax-only alone.c)
+# the compiler of the Rattle toolchain knows other machines than this one; gcc's own folder has the two headers, without
+# a C library
+for_machine=("$(dirname "$(rt doc)")/../on/$(uname -m)/toolchain/bin/clang" -ffreestanding -nostdinc
+    -isystem "$(gcc -print-file-name=include)" -I"$root/include" -std=c11 -Wall -Wextra -Werror -fsyntax-only alone.c)
 for machine in x86_64-linux-gnu aarch64-linux-gnu riscv64-linux-gnu; do "${for_machine[@]}" --target=$machine; done
 for machine in i686-linux-gnu x86_64-linux-gnux32 arm-linux-gnueabi riscv32-linux-gnu; do
     refused_for_size $machine "${for_machine[@]}" --target=$machine

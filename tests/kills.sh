@@ -10,8 +10,8 @@ container_after() { # WHAT: the container has the old diary or the new one, whic
     if cmp -s kept.plq old.plq; then echo old; elif cmp -s kept.plq new.plq; then echo new; else return 1; fi
 }
 
-# Kills PROGRAM at its first system call, at its second, and so on until it ends by itself: by then it was killed at every
-# moment that others can tell apart, since files change by system calls alone. Prints a line for each container found.
+# Kills PROGRAM at its first system call, at its second, and so on until it ends by itself: by then it was killed at
+# every moment that others can tell apart, since files change by system calls alone. Prints what was found each time.
 killed_everywhere() { # PROGRAM
     local stop=0 status=0
     while [ $status = 0 ]; do
@@ -28,10 +28,10 @@ status=0
 killed_everywhere "$bin/seal" >found.txt || status=$?
 case $status in
 0)
-    old=$(grep -c '^old$' found.txt) && new=$(grep -c '^new$' found.txt) || fail "kills: only one of the two diaries was found"
-    passed "kills: at every entry and end of a system call, $((old + new)) moments: $old times the old diary, $new times the new one"
+    old=$(grep -c '^old$' found.txt) && new=$(grep -c '^new$' found.txt) || fail "kills: one diary was never found"
+    passed "kills: at all $((old + new)) entries and ends of system calls: $old times the old diary, $new the new one"
     # a program that writes the container itself, as the first one did: torn in between
-    sed 's/name_beside(container, ".new", new_name)/name_beside(container, "", new_name)/' "$root/examples/seal.c" >seal-in-place.c
+    sed 's/(container, ".new", new_name)/(container, "", new_name)/' "$root/examples/seal.c" >seal-in-place.c
     if cmp -s "$root/examples/seal.c" seal-in-place.c; then fail "kills: seal.c has no new file to take away"; fi
     compile seal-in-place.c seal-in-place -I"$root/examples"
     if killed_everywhere ./seal-in-place >found.txt; then fail "kills: writing the container in place is not seen"; fi
@@ -41,15 +41,22 @@ case $status in
 *) fail "kills: $(tail -n 1 found.txt)" ;;
 esac
 
-# The same by the clock: the two diaries take turns, and each sealing is killed after some time of up to 5 milliseconds.
+# The same by the clock: the two diaries take turns, and each sealing is killed after some time, until 100 of them were
+# killed before they had ended. Waiting is counting, since a program that sleeps takes longer to start than this one to
+# seal.
 RANDOM=7
 cp old.plq kept.plq
-for ((turn = 1; turn <= 100; turn++)); do
+killed=0
+for ((turn = 1; killed < 100 && turn <= 3000; turn++)); do
     if ((turn % 2)); then text=new-diary.txt; else text=$root/examples/diary.txt; fi
+    status=0
     "$bin/seal" "$text" kept.plq &
-    sleep "$(printf '0.%04d' $((RANDOM % 50)))"
+    for ((count = RANDOM % 4000; count > 0; count--)); do :; done
     kill -KILL $! 2>/dev/null || true
-    wait $! 2>/dev/null || true
-    container_after "kill $turn by the clock" || fail "kills: $(cat shown.txt)"
-done >found.txt
-passed "kills: 100 by the clock, $(grep -c '^old$' found.txt) times the old diary, $(grep -c '^new$' found.txt) times the new one"
+    wait $! 2>/dev/null || status=$?
+    [ $status != 137 ] || killed=$((killed + 1))
+    container_after "kill $turn by the clock" >>found-by-the-clock.txt || fail "kills: $(cat shown.txt)"
+done
+[ $killed = 100 ] || fail "kills: only $killed of $turn sealings were killed before they had ended"
+old=$(grep -c '^old$' found-by-the-clock.txt) new=$(grep -c '^new$' found-by-the-clock.txt)
+passed "kills: $killed by the clock, in $((old + new)) sealings: $old times the old diary, $new times the new one"

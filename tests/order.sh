@@ -1,5 +1,4 @@
-# The archive: what it needs of C, and that its calls have the order of parameters, and its answer that of fields, which the
-# header declares.
+# The archive: its names, what it needs of C, and that parameters and fields have the order which the header declares.
 
 declared=$(sed -n 's/^PLQ_MUST_USE plq_answer \(plq_[a-z_]*\)(.*/\1/p' "$root/include/parlaqen.h" | sort)
 exported=$(nm -g --defined-only "$archive" | awk 'NF == 3 { print $3 }' | sort)
@@ -9,9 +8,9 @@ needed=$(nm -u "$archive" | awk '$1 == "U" && $2 !~ /^mem(set|cpy|move|cmp)$/ { 
 [ -z "$needed" ] || fail "the archive needs more than memset, memcpy, memmove and memcmp of C: $needed"
 passed "the archive needs nothing but memset, memcpy, memmove and memcmp of C"
 
-# Every way to exchange two parameters of a call, one to a line, as a macro: it writes the two the other way round wherever
-# the call is, in the header and in the program that goes by it. Below a letter is a parameter in C, a word is one in the
-# library, where a pointer and its length are one list.
+# Every way to exchange two parameters of a call, one to a line, as a macro: it writes the two the other way round
+# wherever the call is, in the header and in the program that goes by it. Below a letter is a parameter in C, a word is
+# one in the library, where a pointer and its length are one list.
 exchanges() {
     awk '
         function in_order(part, parts, i, j,   k, all) { # the letters, with parts i and j exchanged
@@ -68,7 +67,8 @@ done <exchanges.txt
 mkdir with-fields-exchanged
 for fields in "place, code, first, second" "first, place, code, second" "second, place, first, code" \
     "code, first, place, second" "code, second, first, place" "code, place, second, first"; do
-    sed "s/uint32_t code, place, first, second;/uint32_t $fields;/" "$root/include/parlaqen.h" >with-fields-exchanged/parlaqen.h
+    sed "s/uint32_t code, place, first, second;/uint32_t $fields;/" "$root/include/parlaqen.h" \
+        >with-fields-exchanged/parlaqen.h
     exchange_is_seen "the fields of an answer as $fields" -Iwith-fields-exchanged
 done
 passed "order: $count ways to exchange two parameters of a call, and all 6 for two fields of the answer, are seen"

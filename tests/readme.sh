@@ -19,6 +19,7 @@ prints() { # DOCUMENT NAME OUTPUT: the program NAME.c of the document prints wha
 
 prints README.md ten ten.out
 prints docs/INTEGRATE.md nested nested.out
+prints docs/INTEGRATE.md one_file one_file.out
 prints docs/INTEGRATE.md place place.out
 
 block_of README.md ten.rs

@@ -13,7 +13,7 @@ for features in "" --no-default-features; do
     # shellcheck disable=SC2086 # no word or one
     of_crate "its tests $features" cargo test --quiet --offline --locked $features
     count=$(awk '/^test result: ok/ { n += $4 } END { print n }' rust.txt)
-    passed "the Rust crate, ${features:-with its default features}: $count tests, those of its documentation and examples among them"
+    passed "the Rust crate, ${features:-with alloc}: $count tests, those of its documentation and examples among them"
 done
 
 if cargo clippy --version >clippy.txt 2>&1; then
@@ -30,7 +30,8 @@ fi
 # without an archive: a folder that is not there, and a target folder of its own, so that nothing of the above is found
 without_archive=(env PARLAQEN_LIB_DIR="$work/no-archive" CARGO_TARGET_DIR="$work/without-archive")
 of_crate "cargo check without the archive" "${without_archive[@]}" cargo check --quiet --offline --locked
-of_crate "cargo doc without the archive" "${without_archive[@]}" RUSTDOCFLAGS="-D warnings" cargo doc --quiet --offline --locked --no-deps
+of_crate "cargo doc without the archive" "${without_archive[@]}" RUSTDOCFLAGS="-D warnings" \
+    cargo doc --quiet --offline --locked --no-deps
 of_crate "its coverage" "${without_archive[@]}" RUSTC_BOOTSTRAP=1 \
     cargo rustdoc --quiet --offline --locked -- -Z unstable-options --show-coverage
 awk -F'|' '$2 ~ /^ Total / { all = $4 ~ /^ +100.0% $/ && $6 ~ /^ +100.0% $/ } END { exit !all }' rust.txt || {
@@ -42,13 +43,13 @@ passed "the Rust crate: cargo check and cargo doc without the archive; every pub
 # the archive of one target goes before that of all
 machine=$(rustc -vV | sed -n 's/^host: //p')
 for_machine=PARLAQEN_LIB_DIR_${machine//-/_}
-of_crate "$for_machine" env PARLAQEN_LIB_DIR="$work/no-archive" "$for_machine=$root/target/lib" CARGO_TARGET_DIR="$work/linked" \
-    cargo build --quiet --offline --locked --example watch
-if (cd "$root/bindings/rust" && env PARLAQEN_LIB_DIR="$root/target/lib" "$for_machine=$work/no-archive" CARGO_TARGET_DIR="$work/linked" \
-    cargo build --offline --locked --example watch) >rust.txt 2>&1; then
+linking=(CARGO_TARGET_DIR="$work/linked" cargo build --offline --locked --example watch)
+of_crate "$for_machine" env PARLAQEN_LIB_DIR="$work/no-archive" "$for_machine=$root/target/lib" "${linking[@]}"
+if (cd "$root/bindings/rust" &&
+    env PARLAQEN_LIB_DIR="$root/target/lib" "$for_machine=$work/no-archive" "${linking[@]}") >rust.txt 2>&1; then
     fail "the Rust crate: linked without the archive that $for_machine names"
 fi
-grep -q "$work/no-archive/libparlaqen.a is not there" rust.txt || fail "the Rust crate: no word of the archive that is missing"
+grep -q "$work/no-archive/libparlaqen.a is not there" rust.txt || fail "the Rust crate: no word of what is missing"
 passed "the Rust crate: the archive of $for_machine goes before that of PARLAQEN_LIB_DIR; a missing one is named"
 
 for example in screen watch; do

@@ -15,7 +15,7 @@ struct Screen {
 }
 
 impl Screen {
-    /// Checks the copy of a diary, once, and begins at its root.
+    /// Checks the copy of a diary and begins at its root.
     fn open(copy: Vec<u8>, names: &[&'static str]) -> Result<Self> {
         Ok(Self { diary: Image::check(copy)?, names: names.to_vec(), at: Node::ROOT })
     }

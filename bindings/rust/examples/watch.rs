@@ -24,7 +24,7 @@ fn joined() -> Result<Pack> {
 
 /// The bytes of a pack after a bit, from 1, was changed on the way.
 fn changed(sent: &Pack, bit: usize) -> Vec<u8> {
-    let mut bytes = sent.bytes().to_vec();
+    let mut bytes = sent.as_bytes().to_vec();
     bytes[(bit - 1) / 8] ^= 0x80 >> ((bit - 1) % 8);
     bytes
 }
@@ -34,7 +34,7 @@ fn said() -> Result<String> {
     let sent = joined()?;
     let mut said = format!("{} days in {} bits\n", sent.trees(), sent.bits());
 
-    let received = Pack::received(sent.bytes().to_vec(), sent.bits(), sent.trees())?;
+    let received = Pack::received(sent.as_bytes().to_vec(), sent.bits(), sent.trees())?;
     for (part, parents) in received.split()?.into_iter().zip(received.parent_lists()?) {
         said += &format!("from bit {}: {parents:?}\n", part.start);
     }
@@ -58,7 +58,7 @@ from bit 1: [0, 1, 1, 1, 2, 2, 4]
 from bit 16: [0]
 from bit 19: [0, 1, 2, 2]
 with bit 3 changed it is refused: bit 5: no tree string has these bits up to here
-with bit 10 changed it is refused: the pack has 1 tree, which is not the number given
+with bit 10 changed it is refused: the pack has 1 tree, not 3
 with bit 27 changed it is refused: after 27 bits the tree is not over
 ";
     assert_eq!(said().unwrap(), expected);

@@ -1,8 +1,26 @@
+//! The nine calls of the header over lent slices; nothing is allocated; a refused call leaves every slice as it was.
+//!
+//! A list goes in as a slice, and a result comes out in the beginning of a slice that has the room for it; what lies
+//! after the result stays. [`size`] has the rooms that are enough. Bytes that others can change during a call, such as
+//! a map of a file that others write, must not be lent, as [`Image`](crate::Image) says.
+//!
+//! ```
+//! use parlaqen::calls::{ask, image_of_parents};
+//! use parlaqen::{size, Node, Question};
+//!
+//! let mut image = [0; size::image_room(7)];
+//! let counts = image_of_parents(&[0, 1, 1, 1, 2, 2, 4], &mut image)?;
+//! let mut answers = [0; 1];
+//! ask(&image[..counts.image_bytes()], &Question::Parent(Node::try_from(7)?).numbers(), &mut answers)?;
+//! assert_eq!(answers, [4]);
+//! # Ok::<(), parlaqen::Error>(())
+//! ```
+
 use crate::error::Handed;
-use crate::{size, sys, Error, Result};
+use crate::{size, sys, Error, Result, MOST_NODES};
 
 /// The two counts of a call that was not refused.
-pub(crate) fn counts(answer: sys::Answer, handed: Handed) -> Result<(u32, u32)> {
+pub(crate) fn counts(answer: sys::Answer, handed: Handed<'_>) -> Result<(u32, u32)> {
     match answer.code {
         0 => Ok((answer.first, answer.second)),
         code => Err(Error::new(code, answer.place, handed)),
@@ -12,8 +30,8 @@ pub(crate) fn counts(answer: sys::Answer, handed: Handed) -> Result<(u32, u32)> 
 /// What sealing and the check count in a tree.
 ///
 /// ```
-/// let counts = parlaqen::image_of_parents(&[0, 1, 1, 1, 2, 2, 4], &mut [0; 4_096])?;
-/// assert_eq!((counts.nodes, counts.runs), (7, 4));
+/// let counts = parlaqen::calls::image_of_parents(&[0, 1, 1, 1, 2, 2, 4], &mut [0; 4_096])?;
+/// assert_eq!((counts.nodes, counts.runs_of_ones), (7, 4)); // nodes 1, 2 and 4 have children
 /// # Ok::<(), parlaqen::Error>(())
 /// ```
 #[derive(Clone, Copy, Debug, PartialEq, Eq, Hash)]
@@ -21,33 +39,40 @@ pub struct Counts {
     /// The number of nodes.
     pub nodes: u32,
     /// The runs of ones in the tree string: one more than there are nodes with children.
-    pub runs: u32,
+    pub runs_of_ones: u32,
 }
 
 impl Counts {
     /// The bytes of the image of a tree with these counts.
     ///
     /// ```
-    /// assert_eq!(parlaqen::Counts { nodes: 7, runs: 4 }.image_bytes(), 5 * parlaqen::BLOCK_BYTES);
+    /// use parlaqen::{calls::Counts, BLOCK_BYTES};
+    ///
+    /// assert_eq!(Counts { nodes: 7, runs_of_ones: 4 }.image_bytes(), 5 * BLOCK_BYTES);
     /// ```
     #[must_use]
     pub const fn image_bytes(self) -> usize {
-        size::image_bytes(self.nodes as usize, self.runs as usize)
+        size::image_bytes(self.nodes as usize, self.runs_of_ones as usize)
     }
 }
 
-fn counts_of_tree(answer: sys::Answer, handed: Handed) -> Result<Counts> {
-    counts(answer, handed).map(|(nodes, runs)| Counts { nodes, runs })
+fn counts_of_tree(answer: sys::Answer, handed: Handed<'_>) -> Result<Counts> {
+    let (nodes, runs_of_ones) = counts(answer, handed)?;
+    // rooms are made and nodes are counted by these, so those that no tree has go no further
+    if nodes as usize > MOST_NODES || !(1..=nodes).contains(&runs_of_ones) {
+        return Err(Error::UNLISTED_COUNTS);
+    }
+    Ok(Counts { nodes, runs_of_ones })
 }
 
 /// Writes the tree string of a parent list into `bytes` and gives its number of bits.
 ///
-/// It takes [`size::string_bytes`] bytes; what lies after them in `bytes` stays. `TreeString::of_parents` makes the
-/// room itself.
+/// It takes [`size::string_bytes`] bytes; what lies after them in `bytes` stays.
+/// [`TreeString::of_parents`](crate::TreeString::of_parents) makes the room itself.
 ///
 /// ```
 /// let mut bytes = [0xFF; 4];
-/// assert_eq!(parlaqen::string_of_parents(&[0, 1, 1, 1, 2, 2, 4], &mut bytes), Ok(15));
+/// assert_eq!(parlaqen::calls::string_of_parents(&[0, 1, 1, 1, 2, 2, 4], &mut bytes), Ok(15));
 /// assert_eq!(bytes, [0b1011_1011, 0b0010_0000, 0xFF, 0xFF]);
 /// ```
 ///
@@ -62,11 +87,11 @@ pub fn string_of_parents(parents: &[u32], bytes: &mut [u8]) -> Result<usize> {
 /// Reads a tree string of `bits` bits, in exactly as many bytes as they take, writes its parent list into `parents` and
 /// gives the number of nodes.
 ///
-/// `TreeString` makes the room itself.
+/// [`TreeString`](crate::TreeString) makes the room itself.
 ///
 /// ```
 /// let mut parents = [99; 8];
-/// assert_eq!(parlaqen::parents_of_string(&[0b1011_1011, 0b0010_0000], 15, &mut parents), Ok(7));
+/// assert_eq!(parlaqen::calls::parents_of_string(&[0b1011_1011, 0b0010_0000], 15, &mut parents), Ok(7));
 /// assert_eq!(parents, [0, 1, 1, 1, 2, 2, 4, 99]);
 /// ```
 ///
@@ -81,11 +106,12 @@ pub fn parents_of_string(bytes: &[u8], bits: usize, parents: &mut [u32]) -> Resu
 /// Writes the sealed image of a parent list into `image`.
 ///
 /// [`size::image_room`] bytes are always enough. The image then has [`Counts::image_bytes`] of them; what lies after
-/// them in `image` stays. [`Image::seal_in`](crate::Image::seal_in) gives an image of just these bytes, and `seal`
-/// makes the room itself.
+/// them in `image` stays. [`Image::seal_in`](crate::Image::seal_in) gives an image of just these bytes, and
+/// [`seal`](crate::seal) makes the room itself.
 ///
 /// ```
-/// use parlaqen::{check_image, image_of_parents, size};
+/// use parlaqen::calls::{check_image, image_of_parents};
+/// use parlaqen::size;
 ///
 /// let mut room = [0; size::image_room(7)];
 /// let counts = image_of_parents(&[0, 1, 1, 1, 2, 2, 4], &mut room)?;
@@ -103,10 +129,10 @@ pub fn image_of_parents(parents: &[u32], image: &mut [u8]) -> Result<Counts> {
 
 /// Makes the whole check of an image, writes its parent list into `parents` and gives the number of nodes.
 ///
-/// `Image::parents` makes the room itself.
+/// [`Image::parents`](crate::Image::parents) makes the room itself.
 ///
 /// ```
-/// use parlaqen::{parents_of_image, size, Image};
+/// use parlaqen::{calls::parents_of_image, size, Image};
 ///
 /// let mut room = [0; size::image_room(7)];
 /// let image = Image::seal_in(&[0, 1, 1, 1, 2, 2, 4], &mut room)?;
@@ -129,11 +155,12 @@ pub fn parents_of_image(image: &[u8], parents: &mut [u32]) -> Result<usize> {
 /// [`Image::check`](crate::Image::check) keeps the bytes that were checked.
 ///
 /// ```
-/// use parlaqen::{check_image, image_of_parents, Counts, Error, BLOCK_BYTES};
+/// use parlaqen::calls::{check_image, image_of_parents, Counts};
+/// use parlaqen::{Error, BLOCK_BYTES};
 ///
 /// let mut image = [0; 5 * BLOCK_BYTES];
 /// image_of_parents(&[0, 1, 1, 1, 2, 2, 4], &mut image)?;
-/// assert_eq!(check_image(&image), Ok(Counts { nodes: 7, runs: 4 }));
+/// assert_eq!(check_image(&image), Ok(Counts { nodes: 7, runs_of_ones: 4 }));
 /// image[3 * BLOCK_BYTES + 77] ^= 0x20;
 /// assert_eq!(check_image(&image), Err(Error::WrongSums { block: 3 }));
 /// # Ok::<(), parlaqen::Error>(())
@@ -150,10 +177,11 @@ pub fn check_image(image: &[u8]) -> Result<Counts> {
 /// Makes the whole check of an image, answers up to 256 questions and gives their number.
 ///
 /// A question is three numbers: kind, node, argument, as [`Question::numbers`](crate::Question::numbers) gives them.
-/// [`Image::ask_into`](crate::Image::ask_into) takes questions as such, and `Image::ask` makes the room itself.
+/// [`Image::ask_into`](crate::Image::ask_into) takes questions as such, and [`Image::ask`](crate::Image::ask) makes the
+/// room itself.
 ///
 /// ```
-/// use parlaqen::{ask, size, Image};
+/// use parlaqen::{calls::ask, size, Image};
 ///
 /// let mut room = [0; size::image_room(7)];
 /// let image = Image::seal_in(&[0, 1, 1, 1, 2, 2, 4], &mut room)?;
@@ -167,18 +195,18 @@ pub fn check_image(image: &[u8]) -> Result<Counts> {
 ///
 /// [`Error::WrongSize`], [`Error::WrongSums`], [`Error::NotImage`], [`Error::NotAllowed`], [`Error::NoRoom`].
 pub fn ask(image: &[u8], questions: &[i32], answers: &mut [u32]) -> Result<usize> {
-    let handed = Handed::ImageAndQuestions { bytes: image.len(), numbers: questions.len() };
+    let handed = Handed::ImageAndNumbers { bytes: image.len(), numbers: questions.len() };
     counts(sys::ask(image, questions, answers), handed).map(|(answered, _)| answered as usize)
 }
 
 /// Splits a pack, which is `trees` tree strings end to end, in exactly as many bytes as its `bits` bits take: writes
 /// the first bit of each tree, from 1, into `starts` and its number of nodes into `sizes`.
 ///
-/// `Pack` makes the room itself and reads the trees back.
+/// [`Pack`](crate::Pack) makes the room itself and reads the trees back.
 ///
 /// ```
 /// let (mut starts, mut sizes) = ([0; 2], [0; 2]);
-/// parlaqen::split(&[0b1001_0000], 6, 2, &mut starts, &mut sizes)?;
+/// parlaqen::calls::split(&[0b1001_0000], 6, 2, &mut starts, &mut sizes)?;
 /// assert_eq!((starts, sizes), ([1, 4], [1, 1]));
 /// # Ok::<(), parlaqen::Error>(())
 /// ```
@@ -195,12 +223,12 @@ pub fn split(bytes: &[u8], bits: usize, trees: usize, starts: &mut [u32], sizes:
 /// Adds the tree of a parent list after a pack, in a buffer that may be longer than the pack, and gives the new number
 /// of bits. There are `trees + 1` trees then.
 ///
-/// `Pack` makes the room itself.
+/// [`Pack`](crate::Pack) makes the room itself.
 ///
 /// ```
 /// let mut pack = [0; 4];
-/// let bits = parlaqen::join(&mut pack, 0, 0, &[0])?;
-/// let bits = parlaqen::join(&mut pack, bits, 1, &[0, 1])?;
+/// let bits = parlaqen::calls::join(&mut pack, 0, 0, &[0])?;
+/// let bits = parlaqen::calls::join(&mut pack, bits, 1, &[0, 1])?;
 /// assert_eq!((bits, pack), (8, [0b1001_0100, 0, 0, 0]));
 /// # Ok::<(), parlaqen::Error>(())
 /// ```
@@ -218,10 +246,10 @@ pub fn join(pack: &mut [u8], bits: usize, trees: usize, parents: &[u32]) -> Resu
 /// `pairs`, and gives the number of nodes listed. Parents come first, children in order; the depth of `node` is 0.
 ///
 /// [`size::listing_numbers`] are always enough. [`Image::list_in`](crate::Image::list_in) gives an iterator over them,
-/// and `Image::list` makes the room itself.
+/// and [`Image::list`](crate::Image::list) makes the room itself.
 ///
 /// ```
-/// use parlaqen::{list, size, Image};
+/// use parlaqen::{calls::list, size, Image};
 ///
 /// let mut room = [0; size::image_room(7)];
 /// let image = Image::seal_in(&[0, 1, 1, 1, 2, 2, 4], &mut room)?;
@@ -238,4 +266,26 @@ pub fn join(pack: &mut [u8], bits: usize, trees: usize, parents: &[u32]) -> Resu
 pub fn list(image: &[u8], node: u32, pairs: &mut [u32]) -> Result<usize> {
     let handed = Handed::ImageAndNode { bytes: image.len(), node };
     counts(sys::list(image, node, pairs), handed).map(|(listed, _)| listed as usize)
+}
+
+#[cfg(test)]
+mod tests {
+    use super::{counts_of_tree, Counts};
+    use crate::error::Handed;
+    use crate::{sys, Error};
+
+    #[test]
+    fn counts_that_no_tree_has_are_refused() {
+        let counted = |first, second| {
+            let answer = sys::Answer { code: 0, place: 0, first, second };
+            counts_of_tree(answer, Handed::Image { bytes: 2_560 })
+        };
+        for (nodes, runs_of_ones) in [(1, 1), (2, 1), (7, 4), (65_535, 1), (65_535, 65_535)] {
+            assert_eq!(counted(nodes, runs_of_ones), Ok(Counts { nodes, runs_of_ones }));
+        }
+        let wrong = Error::Unlisted { code: 0, place: 0 };
+        for (nodes, runs_of_ones) in [(0, 0), (0, 1), (1, 0), (7, 8), (65_536, 1), (u32::MAX, u32::MAX)] {
+            assert_eq!(counted(nodes, runs_of_ones), Err(wrong));
+        }
+    }
 }

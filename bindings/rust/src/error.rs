@@ -1,6 +1,6 @@
 use core::fmt;
 
-use crate::{size, BLOCK_BYTES, MOST_BITS, MOST_IMAGE_BYTES, MOST_NODES, MOST_QUESTIONS, MOST_TREES};
+use crate::{size, Question, BLOCK_BYTES, MOST_BITS, MOST_IMAGE_BYTES, MOST_NODES, MOST_QUESTIONS, MOST_TREES};
 
 /// The blocks of the smallest image and of the largest.
 const LEAST_BLOCKS: usize = size::image_bytes(1, 1) / BLOCK_BYTES;
@@ -10,10 +10,24 @@ pub(crate) const NUMBERS_OF_QUESTION: usize = 3;
 
 /// Why a call was refused, and where. A refused call has changed nothing in any slice lent to it.
 ///
-/// Where several hold, the upper one in the table of the README is given; the order here is that of the codes.
+/// Where several hold, the one further up in this list is given:
+///
+/// 1. [`WrongSize`](Self::WrongSize)
+/// 2. [`WrongSums`](Self::WrongSums)
+/// 3. [`NotImage`](Self::NotImage)
+/// 4. [`LeftoverSet`](Self::LeftoverSet)
+/// 5. [`NotString`](Self::NotString), [`EndsTooEarly`](Self::EndsTooEarly)
+/// 6. [`OtherTrees`](Self::OtherTrees)
+/// 7. [`NotParents`](Self::NotParents)
+/// 8. [`NotAllowed`](Self::NotAllowed), [`NoSuchNode`](Self::NoSuchNode), [`NoSuchNodeAsked`](Self::NoSuchNodeAsked)
+/// 9. [`TooDeep`](Self::TooDeep)
+/// 10. [`NoRoom`](Self::NoRoom)
+///
+/// The variants below are in the order of their codes.
 ///
 /// ```
-/// use parlaqen::{check_image, string_of_parents, Error, Size};
+/// use parlaqen::calls::{check_image, string_of_parents};
+/// use parlaqen::{Error, WrongSize};
 ///
 /// // node 4, a child of node 1, comes after a child of node 2
 /// let refused = string_of_parents(&[0, 1, 2, 1], &mut [0; 9]).unwrap_err();
@@ -22,7 +36,7 @@ pub(crate) const NUMBERS_OF_QUESTION: usize = 3;
 /// assert_eq!(refused.to_string(), "entry 4: no parent list has this number here");
 ///
 /// let refused = check_image(&[0; 2_559]).unwrap_err();
-/// assert_eq!(refused, Error::WrongSize(Size::ImageBytes { bytes: 2_559 }));
+/// assert_eq!(refused, Error::WrongSize(WrongSize::ImageBytes { bytes: 2_559 }));
 /// assert_eq!(refused.to_string(), "an image of 2559 bytes, but an image is whole blocks of 512 bytes");
 /// ```
 #[derive(Clone, Copy, Debug, PartialEq, Eq, Hash)]
@@ -30,9 +44,10 @@ pub(crate) const NUMBERS_OF_QUESTION: usize = 3;
 pub enum Error {
     /// Code 1: an output has too little room.
     NoRoom,
-    /// Code 2: a count, a length or a number of blocks is outside its limits.
-    WrongSize(Size),
-    /// Code 3: the numbers are no parent list.
+    /// Code 2: a count or a length is outside its limits, or two do not fit each other.
+    WrongSize(WrongSize),
+    /// Code 3: the numbers are no parent list, in which the first number is 0; number i, for each later node i, is from
+    /// 1 to i - 1 and not below the one before it.
     NotParents {
         /// The lowest offending entry, counted from 1.
         entry: u32,
@@ -49,17 +64,24 @@ pub enum Error {
     },
     /// Code 5: a bit after the last one, in the same byte, is set.
     LeftoverSet,
-    /// Code 6: a block of the image is damaged.
+    /// Code 6: a block of the image has wrong sums.
     WrongSums {
-        /// The lowest damaged block, counted from 0.
+        /// The lowest such block, counted from 0.
         block: u32,
     },
-    /// Code 7: no block is damaged, but no tree gives this image.
+    /// Code 7: all sums are right, but no tree gives this image.
     NotImage,
-    /// Code 8, of several questions: the kind, node or argument of one is not allowed.
+    /// Code 8, of questions as numbers: the kind, node or argument of one is not allowed.
     NotAllowed {
         /// The lowest such question, counted from 1.
         question: u32,
+    },
+    /// Code 8, of a list of [`Question`]s: the tree does not have the node of one.
+    NoSuchNodeAsked {
+        /// The lowest such question, counted from 1.
+        question: u32,
+        /// Its node.
+        node: u32,
     },
     /// Code 8, of a listing or of a question about one node: the tree does not have that node.
     NoSuchNode {
@@ -75,8 +97,11 @@ pub enum Error {
     OtherTrees {
         /// The number of trees found.
         found: u32,
+        /// The number of trees given.
+        given: usize,
     },
-    /// A code that this crate does not know: the archive it was linked with is of another version.
+    /// A code that this crate does not know, or code 0, which is no refusal, with counts that cannot be: the archive
+    /// that was linked is of another version than this crate.
     Unlisted {
         /// The code as it came.
         code: u32,
@@ -85,22 +110,23 @@ pub enum Error {
     },
 }
 
-/// Which size is outside its limits, with its numbers, in an [`Error::WrongSize`].
+/// Which size is outside its limits, or which two do not fit each other, with their numbers, in an
+/// [`Error::WrongSize`].
 ///
 /// The library alone decides that a size is wrong. It does not say which, so this is found afterwards from what it was
 /// handed. Where several are wrong, one of them is given.
 ///
 /// ```
-/// use parlaqen::{parents_of_string, Error, Size};
+/// use parlaqen::{calls::parents_of_string, Error, WrongSize};
 ///
 /// let refused = parents_of_string(&[0xBB, 0x20, 0], 15, &mut [0; 7]).unwrap_err();
-/// let size = Size::Bytes { bytes: 3, bits: 15 };
+/// let size = WrongSize::Bytes { bytes: 3, bits: 15 };
 /// assert_eq!(refused, Error::WrongSize(size));
 /// assert_eq!(size.to_string(), "3 bytes for 15 bits, but they take exactly 2 bytes");
 /// ```
 #[derive(Clone, Copy, Debug, PartialEq, Eq, Hash)]
 #[non_exhaustive]
-pub enum Size {
+pub enum WrongSize {
     /// A parent list of no numbers, or of more than 65,535.
     Nodes {
         /// How many numbers it has.
@@ -140,12 +166,17 @@ pub enum Size {
         /// How many bits it would have.
         bits: usize,
     },
+    /// An image of more bytes than 27,136.
+    ImageTooLong {
+        /// How many bytes it has.
+        bytes: usize,
+    },
     /// An image that is not of whole blocks of 512 bytes.
     ImageBytes {
         /// How many bytes it has.
         bytes: usize,
     },
-    /// An image of whole blocks, but not of 5 to 53 of them.
+    /// An image of whole blocks, but of fewer than 5 of them.
     ImageBlocks {
         /// How many blocks it has.
         blocks: usize,
@@ -160,43 +191,47 @@ pub enum Size {
         /// How many questions there are.
         questions: usize,
     },
-    /// None of these: the archive that this crate was linked with is of another version, with other limits.
+    /// None of these: the archive that was linked is of another version than this crate, with other limits.
     Unlisted,
 }
 
 /// What a call was handed, as far as a refusal can be explained from it.
 #[derive(Clone, Copy)]
-pub(crate) enum Handed {
+pub(crate) enum Handed<'a> {
     Parents { nodes: usize },
     String { bytes: usize, bits: usize },
     Pack { bytes: usize, bits: usize, trees: usize },
     PackAndParents { bytes: usize, bits: usize, trees: usize, nodes: usize },
     Image { bytes: usize },
-    ImageAndQuestions { bytes: usize, numbers: usize },
+    ImageAndNumbers { bytes: usize, numbers: usize },
+    ImageAndQuestions { bytes: usize, questions: &'a [Question] },
     ImageAndNode { bytes: usize, node: u32 },
 }
 
-impl Handed {
+impl Handed<'_> {
     /// The first of its sizes that is wrong.
-    fn wrong_size(self) -> Size {
+    fn wrong_size(self) -> WrongSize {
         let wrong = match self {
             Self::Parents { nodes } => wrong_nodes(nodes),
             Self::String { bytes, bits } => wrong_bits(bits).or_else(|| wrong_bytes(bytes, bits)),
             Self::Pack { bytes, bits, trees } => wrong_bits(bits)
                 .or_else(|| wrong_bytes(bytes, bits))
-                .or_else(|| (trees > MOST_TREES).then_some(Size::Trees { trees })),
+                .or_else(|| (trees > MOST_TREES).then_some(WrongSize::Trees { trees })),
             Self::PackAndParents { bytes, bits, trees, nodes } => wrong_nodes(nodes)
                 .or_else(|| wrong_bits(bits))
-                .or_else(|| (bytes < size::bytes_of_bits(bits)).then_some(Size::TooFewBytes { bytes, bits }))
-                .or_else(|| (trees >= MOST_TREES).then_some(Size::TreesBefore { trees }))
+                .or_else(|| (bytes < size::bytes_of_bits(bits)).then_some(WrongSize::TooFewBytes { bytes, bits }))
+                .or_else(|| (trees >= MOST_TREES).then_some(WrongSize::TreesBefore { trees }))
                 .or_else(|| {
                     let bits = bits + size::string_bits(nodes);
-                    (bits > MOST_BITS).then_some(Size::JoinedBits { bits })
+                    (bits > MOST_BITS).then_some(WrongSize::JoinedBits { bits })
                 }),
             Self::Image { bytes } | Self::ImageAndNode { bytes, .. } => wrong_image(bytes),
-            Self::ImageAndQuestions { bytes, numbers } => wrong_image(bytes).or_else(|| wrong_questions(numbers)),
+            Self::ImageAndNumbers { bytes, numbers } => wrong_image(bytes).or_else(|| wrong_numbers(numbers)),
+            Self::ImageAndQuestions { bytes, questions } => {
+                wrong_image(bytes).or_else(|| wrong_questions(questions.len()))
+            }
         };
-        wrong.unwrap_or(Size::Unlisted)
+        wrong.unwrap_or(WrongSize::Unlisted)
     }
 
     /// The number of bits, where bits were handed over.
@@ -208,39 +243,47 @@ impl Handed {
     }
 }
 
-fn wrong_nodes(nodes: usize) -> Option<Size> {
-    (!(1..=MOST_NODES).contains(&nodes)).then_some(Size::Nodes { nodes })
+fn wrong_nodes(nodes: usize) -> Option<WrongSize> {
+    (!(1..=MOST_NODES).contains(&nodes)).then_some(WrongSize::Nodes { nodes })
 }
 
-fn wrong_bits(bits: usize) -> Option<Size> {
-    (bits > MOST_BITS).then_some(Size::Bits { bits })
+fn wrong_bits(bits: usize) -> Option<WrongSize> {
+    (bits > MOST_BITS).then_some(WrongSize::Bits { bits })
 }
 
-fn wrong_bytes(bytes: usize, bits: usize) -> Option<Size> {
-    (bytes != size::bytes_of_bits(bits)).then_some(Size::Bytes { bytes, bits })
+fn wrong_bytes(bytes: usize, bits: usize) -> Option<WrongSize> {
+    (bytes != size::bytes_of_bits(bits)).then_some(WrongSize::Bytes { bytes, bits })
 }
 
-fn wrong_image(bytes: usize) -> Option<Size> {
+fn wrong_image(bytes: usize) -> Option<WrongSize> {
     let blocks = bytes / BLOCK_BYTES;
-    if bytes % BLOCK_BYTES != 0 {
-        Some(Size::ImageBytes { bytes })
+    if bytes > MOST_IMAGE_BYTES {
+        Some(WrongSize::ImageTooLong { bytes })
+    } else if bytes % BLOCK_BYTES != 0 {
+        Some(WrongSize::ImageBytes { bytes })
     } else {
-        (!(LEAST_BLOCKS..=MOST_BLOCKS).contains(&blocks)).then_some(Size::ImageBlocks { blocks })
+        (blocks < LEAST_BLOCKS).then_some(WrongSize::ImageBlocks { blocks })
     }
 }
 
-fn wrong_questions(numbers: usize) -> Option<Size> {
-    let questions = numbers / NUMBERS_OF_QUESTION;
+fn wrong_numbers(numbers: usize) -> Option<WrongSize> {
     if numbers % NUMBERS_OF_QUESTION != 0 {
-        Some(Size::QuestionNumbers { numbers })
+        Some(WrongSize::QuestionNumbers { numbers })
     } else {
-        (questions > MOST_QUESTIONS).then_some(Size::Questions { questions })
+        wrong_questions(numbers / NUMBERS_OF_QUESTION)
     }
+}
+
+fn wrong_questions(questions: usize) -> Option<WrongSize> {
+    (questions > MOST_QUESTIONS).then_some(WrongSize::Questions { questions })
 }
 
 impl Error {
+    /// What is said of counts that no call of this crate's version gives, so that they lead to no panic.
+    pub(crate) const UNLISTED_COUNTS: Self = Self::Unlisted { code: 0, place: 0 };
+
     /// The refusal of the library, in the words of a caller who handed this over.
-    pub(crate) fn new(code: u32, place: u32, handed: Handed) -> Self {
+    pub(crate) fn new(code: u32, place: u32, handed: Handed<'_>) -> Self {
         match (code, handed) {
             (1, _) => Self::NoRoom,
             (2, _) => Self::WrongSize(handed.wrong_size()),
@@ -253,9 +296,15 @@ impl Error {
             (6, _) => Self::WrongSums { block: place },
             (7, _) => Self::NotImage,
             (8, Handed::ImageAndNode { node, .. }) if place == 1 => Self::NoSuchNode { node },
+            (8, Handed::ImageAndQuestions { questions, .. }) => match question_at(questions, place) {
+                Some(question) => Self::NoSuchNodeAsked { question: place, node: question.node().get() },
+                None => Self::NotAllowed { question: place },
+            },
             (8, _) => Self::NotAllowed { question: place },
             (9, _) => Self::TooDeep { node: place },
-            (10, _) => Self::OtherTrees { found: place },
+            (10, Handed::Pack { trees, .. } | Handed::PackAndParents { trees, .. }) => {
+                Self::OtherTrees { found: place, given: trees }
+            }
             _ => Self::Unlisted { code, place },
         }
     }
@@ -263,10 +312,11 @@ impl Error {
     /// The same refusal where so many questions were asked before those that it counts.
     #[cfg(feature = "alloc")]
     pub(crate) fn after_questions(self, asked: usize) -> Self {
+        let asked = u32::try_from(asked).unwrap_or(u32::MAX);
         match self {
-            Self::NotAllowed { question } => {
-                let asked = u32::try_from(asked).unwrap_or(u32::MAX);
-                Self::NotAllowed { question: asked.saturating_add(question) }
+            Self::NotAllowed { question } => Self::NotAllowed { question: asked.saturating_add(question) },
+            Self::NoSuchNodeAsked { question, node } => {
+                Self::NoSuchNodeAsked { question: asked.saturating_add(question), node }
             }
             other => other,
         }
@@ -290,7 +340,7 @@ impl Error {
             Self::LeftoverSet => 5,
             Self::WrongSums { .. } => 6,
             Self::NotImage => 7,
-            Self::NotAllowed { .. } | Self::NoSuchNode { .. } => 8,
+            Self::NotAllowed { .. } | Self::NoSuchNodeAsked { .. } | Self::NoSuchNode { .. } => 8,
             Self::TooDeep { .. } => 9,
             Self::OtherTrees { .. } => 10,
             Self::Unlisted { code, .. } => code,
@@ -305,6 +355,7 @@ impl Error {
     /// assert_eq!(Error::NoRoom.place(), 0);
     /// assert_eq!(Error::EndsTooEarly { bits: 6 }.place(), 7);
     /// assert_eq!(Error::NoSuchNode { node: 9 }.place(), 1);
+    /// assert_eq!(Error::NoSuchNodeAsked { question: 700, node: 8 }.place(), 700);
     /// ```
     #[must_use]
     pub const fn place(self) -> u32 {
@@ -316,11 +367,17 @@ impl Error {
             | Self::NotString { bit: place }
             | Self::WrongSums { block: place }
             | Self::NotAllowed { question: place }
+            | Self::NoSuchNodeAsked { question: place, .. }
             | Self::TooDeep { node: place }
-            | Self::OtherTrees { found: place }
+            | Self::OtherTrees { found: place, .. }
             | Self::Unlisted { place, .. } => place,
         }
     }
+}
+
+/// The question of that number, from 1.
+fn question_at(questions: &[Question], number: u32) -> Option<Question> {
+    questions.get(number.checked_sub(1)? as usize).copied()
 }
 
 /// A number of things, in words: `1 byte`, `2 bytes`.
@@ -342,22 +399,30 @@ impl fmt::Display for Error {
             Self::NotString { bit } => write!(f, "bit {bit}: no tree string has these bits up to here"),
             Self::EndsTooEarly { bits } => write!(f, "after {} the tree is not over", Count(bits as usize, "bit")),
             Self::LeftoverSet => write!(f, "a bit after the last one, in the same byte, is set"),
-            Self::WrongSums { block } => write!(f, "block {block} of the image is damaged"),
-            Self::NotImage => write!(f, "no block is damaged, but no tree gives this image"),
+            Self::WrongSums { block } => write!(f, "block {block} of the image has wrong sums"),
+            Self::NotImage => write!(f, "all sums are right, but no tree gives this image"),
             Self::NotAllowed { question } => {
                 write!(f, "question {question}: its kind, node or argument is not allowed")
             }
+            Self::NoSuchNodeAsked { question, node } => {
+                write!(f, "question {question}: the tree has no node {node}")
+            }
             Self::NoSuchNode { node } => write!(f, "the tree has no node {node}"),
             Self::TooDeep { node } => write!(f, "node {node} is at depth 64, but a listing ends at depth 63"),
-            Self::OtherTrees { found } => {
-                write!(f, "the pack has {}, which is not the number given", Count(found as usize, "tree"))
+            Self::OtherTrees { found, given } => {
+                write!(f, "the pack has {}, not {given}", Count(found as usize, "tree"))
             }
-            Self::Unlisted { code, place } => write!(f, "code {code}, place {place}, which this crate does not know"),
+            Self::Unlisted { code, place } => {
+                write!(
+                    f,
+                    "code {code}, place {place}: the archive that was linked is of another version than this crate"
+                )
+            }
         }
     }
 }
 
-impl fmt::Display for Size {
+impl fmt::Display for WrongSize {
     fn fmt(&self, f: &mut fmt::Formatter<'_>) -> fmt::Result {
         match *self {
             Self::Nodes { nodes } => {
@@ -381,6 +446,9 @@ impl fmt::Display for Size {
             Self::JoinedBits { bits } => {
                 write!(f, "the joined pack would have {}, but a pack has at most {MOST_BITS}", Count(bits, "bit"))
             }
+            Self::ImageTooLong { bytes } => {
+                write!(f, "an image of {}, but an image has at most {MOST_IMAGE_BYTES} bytes", Count(bytes, "byte"))
+            }
             Self::ImageBytes { bytes } => {
                 write!(f, "an image of {}, but an image is whole blocks of {BLOCK_BYTES} bytes", Count(bytes, "byte"))
             }
@@ -393,7 +461,7 @@ impl fmt::Display for Size {
             Self::Questions { questions } => {
                 write!(f, "{}, but one call answers at most {MOST_QUESTIONS}", Count(questions, "question"))
             }
-            Self::Unlisted => write!(f, "a count, a length or a number of blocks is outside its limits"),
+            Self::Unlisted => write!(f, "a count or a length is outside its limits, or two do not fit each other"),
         }
     }
 }
@@ -404,16 +472,20 @@ impl core::error::Error for Error {}
 mod tests {
     use std::string::ToString;
 
-    use super::{Error, Handed, Size};
+    use super::{Error, Handed, WrongSize};
+    use crate::{Node, Question};
 
-    const HANDED: [Handed; 8] = [
+    const QUESTIONS: [Question; 2] = [Question::Parent(Node::ROOT), Question::Leaf(Node::ROOT)];
+
+    const HANDED: [Handed; 9] = [
         Handed::Parents { nodes: 7 },
         Handed::String { bytes: 2, bits: 15 },
         Handed::String { bytes: 0, bits: usize::MAX },
         Handed::Pack { bytes: 2, bits: 65_534, trees: 2 },
         Handed::PackAndParents { bytes: 2, bits: u32::MAX as usize - 1, trees: 2, nodes: 7 },
         Handed::Image { bytes: 2_560 },
-        Handed::ImageAndQuestions { bytes: 2_560, numbers: 6 },
+        Handed::ImageAndNumbers { bytes: 2_560, numbers: 6 },
+        Handed::ImageAndQuestions { bytes: 2_560, questions: &QUESTIONS },
         Handed::ImageAndNode { bytes: 2_560, node: 9 },
     ];
 
@@ -432,7 +504,9 @@ mod tests {
                         _ => place,
                     };
                     assert!(!with_place || error.to_string().contains(&said.to_string()));
-                    assert_eq!(matches!(error, Error::Unlisted { .. }), code > 10, "code {code}");
+                    let of_a_pack = matches!(handed, Handed::Pack { .. } | Handed::PackAndParents { .. });
+                    let unlisted = code > 10 || code == 10 && !of_a_pack;
+                    assert_eq!(matches!(error, Error::Unlisted { .. }), unlisted, "code {code}");
                 }
             }
         }
@@ -450,8 +524,14 @@ mod tests {
     fn a_node_is_named_only_where_there_is_one() {
         let node = Handed::ImageAndNode { bytes: 2_560, node: 9 };
         assert_eq!(Error::new(8, 1, node), Error::NoSuchNode { node: 9 });
-        let questions = Handed::ImageAndQuestions { bytes: 2_560, numbers: 3 };
-        assert_eq!(Error::new(8, 1, questions), Error::NotAllowed { question: 1 });
+        let numbers = Handed::ImageAndNumbers { bytes: 2_560, numbers: 3 };
+        assert_eq!(Error::new(8, 1, numbers), Error::NotAllowed { question: 1 });
+        let questions = [Question::Parent(Node::ROOT), Question::Leaf(Node::try_from(8).unwrap())];
+        let questions = Handed::ImageAndQuestions { bytes: 2_560, questions: &questions };
+        assert_eq!(Error::new(8, 2, questions), Error::NoSuchNodeAsked { question: 2, node: 8 });
+        for place in [0, 3, u32::MAX] {
+            assert_eq!(Error::new(8, place, questions), Error::NotAllowed { question: place });
+        }
     }
 
     /// Sizes at their limits are right to this crate. If a library refused them, its limits would be others.
@@ -467,11 +547,13 @@ mod tests {
             Handed::PackAndParents { bytes: 99_999, bits: 131_068, trees: 0, nodes: 1 },
             Handed::Image { bytes: 2_560 },
             Handed::Image { bytes: 27_136 },
-            Handed::ImageAndQuestions { bytes: 2_560, numbers: 0 },
-            Handed::ImageAndQuestions { bytes: 27_136, numbers: 768 },
+            Handed::ImageAndNumbers { bytes: 2_560, numbers: 0 },
+            Handed::ImageAndNumbers { bytes: 27_136, numbers: 768 },
+            Handed::ImageAndQuestions { bytes: 2_560, questions: &[] },
+            Handed::ImageAndQuestions { bytes: 27_136, questions: &[QUESTIONS[0]; 256] },
             Handed::ImageAndNode { bytes: 2_560, node: 0 },
         ] {
-            assert_eq!(Error::new(2, 0, handed), Error::WrongSize(Size::Unlisted));
+            assert_eq!(Error::new(2, 0, handed), Error::WrongSize(WrongSize::Unlisted));
         }
     }
 
@@ -481,6 +563,9 @@ mod tests {
         assert_eq!(Error::NotAllowed { question: 3 }.after_questions(512), Error::NotAllowed { question: 515 });
         let most = Error::NotAllowed { question: u32::MAX };
         assert_eq!(Error::NotAllowed { question: 3 }.after_questions(usize::MAX), most);
+        let asked = Error::NoSuchNodeAsked { question: 3, node: 8 };
+        assert_eq!(asked.after_questions(512), Error::NoSuchNodeAsked { question: 515, node: 8 });
+        assert_eq!(asked.after_questions(usize::MAX), Error::NoSuchNodeAsked { question: u32::MAX, node: 8 });
         assert_eq!(Error::NotImage.after_questions(512), Error::NotImage);
     }
 }

@@ -1,35 +1,61 @@
 #[cfg(feature = "alloc")]
 use alloc::{vec, vec::Vec};
 use core::fmt;
+use core::hash::{Hash, Hasher};
 
-use crate::calls::counts;
-use crate::error::{Handed, NUMBERS_OF_QUESTION};
-use crate::{
-    check_image, image_of_parents, list, sys, Answer, Counts, Listing, Node, Nodes, Question, Result, MOST_QUESTIONS,
-};
 #[cfg(feature = "alloc")]
-use crate::{parents_of_image, size, MOST_NODES};
+use crate::calls::parents_of_image;
+use crate::calls::{check_image, counts, image_of_parents, list, Counts};
+use crate::error::{Handed, NUMBERS_OF_QUESTION};
+#[cfg(feature = "alloc")]
+use crate::{size, MOST_NODES};
+use crate::{sys, Answer, Error, Listing, Node, Nodes, Question, Result, MOST_QUESTIONS};
 
 /// The sealed image of a parent list, in as many bytes as it takes. Needs the feature `alloc`.
 ///
 /// Without it there is [`Image::seal_in`].
 ///
-/// ```
-/// use parlaqen::{seal, Image, BLOCK_BYTES};
+/// A parent list has for each node, in level order, the number of its parent: the first number is 0; number i, for each
+/// later node i, is from 1 to i - 1 and not below the one before it. Going through nested records breadth first makes
+/// one, and an array of other data in the same order, where [`Node::index`] finds them:
 ///
-/// struct Screen {
-///     diary: Image<Vec<u8>>,
+/// ```
+/// use parlaqen::{seal, Node};
+/// use std::collections::VecDeque;
+///
+/// struct Record {
+///     name: &'static str,
+///     children: Vec<Record>,
 /// }
 ///
-/// let screen = Screen { diary: seal(&[0, 1, 1, 1, 2, 2, 4])? };
-/// assert_eq!(screen.diary.nodes(), 7);
-/// assert_eq!(screen.diary.into_bytes().len(), 5 * BLOCK_BYTES);
+/// fn in_level_order(root: &Record) -> (Vec<u32>, Vec<&'static str>) {
+///     let (mut parents, mut names) = (Vec::new(), Vec::new());
+///     let mut waiting = VecDeque::from([(0, root)]);
+///     while let Some((parent, record)) = waiting.pop_front() {
+///         parents.push(parent);
+///         names.push(record.name);
+///         let node = parents.len() as u32;
+///         waiting.extend(record.children.iter().map(|child| (node, child)));
+///     }
+///     (parents, names)
+/// }
+///
+/// let record = |name, children| Record { name, children };
+/// let week_1 = record("week 1", vec![record("Monday", vec![]), record("Thursday", vec![])]);
+/// let week_2 = record("week 2", vec![record("Tuesday", vec![])]);
+/// let (parents, names) = in_level_order(&record("season", vec![week_1, week_2]));
+/// assert_eq!(parents, [0, 1, 1, 2, 2, 3]);
+/// assert_eq!(names, ["season", "week 1", "week 2", "Monday", "Thursday", "Tuesday"]);
+///
+/// let image = seal(&parents)?;
+/// let run = image.last_child(Node::try_from(2)?)?;
+/// assert_eq!(run.map(|node| names[node.index()]), Some("Thursday"));
 /// # Ok::<(), parlaqen::Error>(())
 /// ```
 ///
 /// # Errors
 ///
-/// [`Error::WrongSize`](crate::Error::WrongSize), [`Error::NotParents`](crate::Error::NotParents).
+/// [`Error::WrongSize`], [`Error::NotParents`].
 #[cfg(feature = "alloc")]
 pub fn seal(parents: &[u32]) -> Result<Image<Vec<u8>>> {
     // a list of another length is refused before room matters
@@ -45,14 +71,20 @@ pub fn seal(parents: &[u32]) -> Result<Image<Vec<u8>>> {
 ///
 /// Copy the image out of its container, let go of the lock, then check and ask the copy.
 ///
-/// What `bytes.as_ref()` gives must not change between calls, and for every type named here it cannot. If it does, an
-/// answer is a refusal or that of the other bytes, and nothing worse: the library makes the whole check in every call.
-/// So it is also best to ask many questions at once.
+/// Whatever asks the image calls `bytes.as_ref()` once and makes the whole check of what it gives, so it is best to ask
+/// many questions at once: [`Image::ask`], [`Image::ask_into`]. Bytes may change between calls without harm: an answer
+/// is a refusal or that of the other bytes. [`nodes`](Self::nodes), [`all_nodes`](Self::all_nodes) and
+/// [`nodes_with_children`](Self::nodes_with_children) stay those of the check.
+///
+/// Bytes that can change *during* a call must not be lent, such as a map of a file that others write, or memory that is
+/// shared with another process: a call may then read and write anywhere. Copy them first.
+///
+/// Two images are equal if their bytes are, whatever they are kept in.
 ///
 /// A [`Node`] may be of another image, so whatever asks about one can be refused.
 ///
 /// ```
-/// use parlaqen::{image_of_parents, Error, Image, Node, BLOCK_BYTES};
+/// use parlaqen::{calls::image_of_parents, Error, Image, Node, BLOCK_BYTES};
 ///
 /// let mut bytes = [0; 5 * BLOCK_BYTES];
 /// image_of_parents(&[0, 1, 1, 1, 2, 2, 4], &mut bytes)?;
@@ -67,7 +99,7 @@ pub fn seal(parents: &[u32]) -> Result<Image<Vec<u8>>> {
 /// assert_eq!(Image::check(&bytes), Err(Error::WrongSums { block: 1 }));
 /// # Ok::<(), Error>(())
 /// ```
-#[derive(Clone, Copy, PartialEq, Eq, Hash)]
+#[derive(Clone, Copy)]
 pub struct Image<B> {
     bytes: B,
     counts: Counts,
@@ -101,11 +133,70 @@ impl<'a> Image<&'a [u8]> {
     ///
     /// # Errors
     ///
-    /// [`Error::WrongSize`](crate::Error::WrongSize), [`Error::NotParents`](crate::Error::NotParents),
-    /// [`Error::NoRoom`](crate::Error::NoRoom).
+    /// [`Error::WrongSize`], [`Error::NotParents`], [`Error::NoRoom`].
     pub fn seal_in(parents: &[u32], buffer: &'a mut [u8]) -> Result<Self> {
         let counts = image_of_parents(parents, buffer)?;
-        Ok(Self { bytes: &buffer[..counts.image_bytes()], counts })
+        let bytes = buffer.get(..counts.image_bytes()).ok_or(Error::UNLISTED_COUNTS)?;
+        Ok(Self { bytes, counts })
+    }
+}
+
+impl<B> Image<B> {
+    /// What the image was made of: its bytes, owned if they were.
+    ///
+    /// ```
+    /// # use parlaqen::{size, Image};
+    /// # let mut room = [0; size::image_room(7)];
+    /// # let image = Image::seal_in(&[0, 1, 1, 1, 2, 2, 4], &mut room)?;
+    /// let bytes: &[u8] = image.into_bytes();
+    /// assert_eq!(bytes.len(), parlaqen::calls::Counts { nodes: 7, runs_of_ones: 4 }.image_bytes());
+    /// # Ok::<(), parlaqen::Error>(())
+    /// ```
+    #[must_use]
+    pub fn into_bytes(self) -> B {
+        self.bytes
+    }
+
+    /// The number of nodes.
+    ///
+    /// ```
+    /// # use parlaqen::{size, Image};
+    /// # let mut room = [0; size::image_room(7)];
+    /// # let image = Image::seal_in(&[0, 1, 1, 1, 2, 2, 4], &mut room)?;
+    /// assert_eq!(image.nodes(), 7);
+    /// # Ok::<(), parlaqen::Error>(())
+    /// ```
+    #[must_use]
+    pub const fn nodes(&self) -> u32 {
+        self.counts.nodes
+    }
+
+    /// The number of nodes that have children.
+    ///
+    /// ```
+    /// # use parlaqen::{size, Image};
+    /// # let mut room = [0; size::image_room(7)];
+    /// # let image = Image::seal_in(&[0, 1, 1, 1, 2, 2, 4], &mut room)?;
+    /// assert_eq!(image.nodes_with_children(), 3);
+    /// # Ok::<(), parlaqen::Error>(())
+    /// ```
+    #[must_use]
+    pub const fn nodes_with_children(&self) -> u32 {
+        self.counts.runs_of_ones - 1
+    }
+
+    /// Every node, in level order.
+    ///
+    /// ```
+    /// # use parlaqen::{size, Image, Node};
+    /// # let mut room = [0; size::image_room(7)];
+    /// # let image = Image::seal_in(&[0, 1, 1, 1, 2, 2, 4], &mut room)?;
+    /// assert_eq!(image.all_nodes().len(), 7);
+    /// assert_eq!(image.all_nodes().leftmost(), Some(Node::ROOT));
+    /// # Ok::<(), parlaqen::Error>(())
+    /// ```
+    pub const fn all_nodes(&self) -> Nodes {
+        Nodes::between(Some(Node::ROOT), Node::new(self.counts.nodes))
     }
 }
 
@@ -114,20 +205,19 @@ impl<B: AsRef<[u8]>> Image<B> {
     /// them lends them.
     ///
     /// ```
-    /// use parlaqen::{image_of_parents, Error, Image, Size, BLOCK_BYTES};
+    /// use parlaqen::{calls::image_of_parents, Error, Image, WrongSize, BLOCK_BYTES};
     ///
     /// let mut bytes = [0; 5 * BLOCK_BYTES];
     /// image_of_parents(&[0, 1, 1], &mut bytes)?;
     /// assert_eq!(Image::check(&bytes)?.nodes(), 3);
-    /// let cut_off = Error::WrongSize(Size::ImageBlocks { blocks: 4 });
+    /// let cut_off = Error::WrongSize(WrongSize::ImageBlocks { blocks: 4 });
     /// assert_eq!(Image::check(&bytes[..4 * BLOCK_BYTES]), Err(cut_off));
     /// # Ok::<(), Error>(())
     /// ```
     ///
     /// # Errors
     ///
-    /// [`Error::WrongSize`](crate::Error::WrongSize), [`Error::WrongSums`](crate::Error::WrongSums),
-    /// [`Error::NotImage`](crate::Error::NotImage).
+    /// [`Error::WrongSize`], [`Error::WrongSums`], [`Error::NotImage`].
     pub fn check(bytes: B) -> Result<Self> {
         let counts = check_image(bytes.as_ref())?;
         Ok(Self { bytes, counts })
@@ -147,63 +237,6 @@ impl<B: AsRef<[u8]>> Image<B> {
         self.bytes.as_ref()
     }
 
-    /// What the image was made of: its bytes, owned if they were.
-    ///
-    /// ```
-    /// # use parlaqen::{size, Image};
-    /// # let mut room = [0; size::image_room(7)];
-    /// # let image = Image::seal_in(&[0, 1, 1, 1, 2, 2, 4], &mut room)?;
-    /// let bytes: &[u8] = image.into_bytes();
-    /// assert_eq!(bytes.len(), parlaqen::Counts { nodes: 7, runs: 4 }.image_bytes());
-    /// # Ok::<(), parlaqen::Error>(())
-    /// ```
-    #[must_use]
-    pub fn into_bytes(self) -> B {
-        self.bytes
-    }
-
-    /// The number of nodes.
-    ///
-    /// ```
-    /// # use parlaqen::{size, Image};
-    /// # let mut room = [0; size::image_room(7)];
-    /// # let image = Image::seal_in(&[0, 1, 1, 1, 2, 2, 4], &mut room)?;
-    /// assert_eq!(image.nodes(), 7);
-    /// # Ok::<(), parlaqen::Error>(())
-    /// ```
-    #[must_use]
-    pub fn nodes(&self) -> u32 {
-        self.counts.nodes
-    }
-
-    /// The number of nodes that have children.
-    ///
-    /// ```
-    /// # use parlaqen::{size, Image};
-    /// # let mut room = [0; size::image_room(7)];
-    /// # let image = Image::seal_in(&[0, 1, 1, 1, 2, 2, 4], &mut room)?;
-    /// assert_eq!(image.nodes_with_children(), 3);
-    /// # Ok::<(), parlaqen::Error>(())
-    /// ```
-    #[must_use]
-    pub fn nodes_with_children(&self) -> u32 {
-        self.counts.runs - 1
-    }
-
-    /// Every node, in level order.
-    ///
-    /// ```
-    /// # use parlaqen::{size, Image, Node};
-    /// # let mut room = [0; size::image_room(7)];
-    /// # let image = Image::seal_in(&[0, 1, 1, 1, 2, 2, 4], &mut room)?;
-    /// assert_eq!(image.all_nodes().len(), 7);
-    /// assert_eq!(image.all_nodes().leftmost(), Some(Node::ROOT));
-    /// # Ok::<(), parlaqen::Error>(())
-    /// ```
-    pub fn all_nodes(&self) -> Nodes {
-        Nodes::between(Some(Node::ROOT), Node::new(self.counts.nodes))
-    }
-
     /// The parent; none for the root.
     ///
     /// ```
@@ -217,9 +250,9 @@ impl<B: AsRef<[u8]>> Image<B> {
     ///
     /// # Errors
     ///
-    /// [`Error::NoSuchNode`](crate::Error::NoSuchNode); if the bytes have changed, those of [`Image::check`].
+    /// [`Error::NoSuchNode`]; if the bytes have changed, those of [`Image::check`].
     pub fn parent(&self, node: Node) -> Result<Option<Node>> {
-        self.node(node, Question::Parent(node))
+        one_node(self.as_bytes(), node, Question::Parent(node))
     }
 
     /// The first child; none for a leaf.
@@ -235,9 +268,9 @@ impl<B: AsRef<[u8]>> Image<B> {
     ///
     /// # Errors
     ///
-    /// [`Error::NoSuchNode`](crate::Error::NoSuchNode); if the bytes have changed, those of [`Image::check`].
+    /// [`Error::NoSuchNode`]; if the bytes have changed, those of [`Image::check`].
     pub fn first_child(&self, node: Node) -> Result<Option<Node>> {
-        self.node(node, Question::FirstChild(node))
+        one_node(self.as_bytes(), node, Question::FirstChild(node))
     }
 
     /// The last child; none for a leaf.
@@ -253,9 +286,9 @@ impl<B: AsRef<[u8]>> Image<B> {
     ///
     /// # Errors
     ///
-    /// [`Error::NoSuchNode`](crate::Error::NoSuchNode); if the bytes have changed, those of [`Image::check`].
+    /// [`Error::NoSuchNode`]; if the bytes have changed, those of [`Image::check`].
     pub fn last_child(&self, node: Node) -> Result<Option<Node>> {
-        self.node(node, Question::LastChild(node))
+        one_node(self.as_bytes(), node, Question::LastChild(node))
     }
 
     /// The sibling to the right; none for the last of them.
@@ -271,9 +304,9 @@ impl<B: AsRef<[u8]>> Image<B> {
     ///
     /// # Errors
     ///
-    /// [`Error::NoSuchNode`](crate::Error::NoSuchNode); if the bytes have changed, those of [`Image::check`].
+    /// [`Error::NoSuchNode`]; if the bytes have changed, those of [`Image::check`].
     pub fn next_sibling(&self, node: Node) -> Result<Option<Node>> {
-        self.node(node, Question::NextSibling(node))
+        one_node(self.as_bytes(), node, Question::NextSibling(node))
     }
 
     /// The sibling to the left; none for the first of them.
@@ -289,9 +322,9 @@ impl<B: AsRef<[u8]>> Image<B> {
     ///
     /// # Errors
     ///
-    /// [`Error::NoSuchNode`](crate::Error::NoSuchNode); if the bytes have changed, those of [`Image::check`].
+    /// [`Error::NoSuchNode`]; if the bytes have changed, those of [`Image::check`].
     pub fn previous_sibling(&self, node: Node) -> Result<Option<Node>> {
-        self.node(node, Question::PreviousSibling(node))
+        one_node(self.as_bytes(), node, Question::PreviousSibling(node))
     }
 
     /// The number of children.
@@ -307,9 +340,9 @@ impl<B: AsRef<[u8]>> Image<B> {
     ///
     /// # Errors
     ///
-    /// [`Error::NoSuchNode`](crate::Error::NoSuchNode); if the bytes have changed, those of [`Image::check`].
+    /// [`Error::NoSuchNode`]; if the bytes have changed, those of [`Image::check`].
     pub fn degree(&self, node: Node) -> Result<u32> {
-        self.number(node, Question::Degree(node))
+        one_number(self.as_bytes(), node, Question::Degree(node))
     }
 
     /// The number of the node among its siblings, from 1, as the library has it; the root's is 1.
@@ -327,9 +360,9 @@ impl<B: AsRef<[u8]>> Image<B> {
     ///
     /// # Errors
     ///
-    /// [`Error::NoSuchNode`](crate::Error::NoSuchNode); if the bytes have changed, those of [`Image::check`].
+    /// [`Error::NoSuchNode`]; if the bytes have changed, those of [`Image::check`].
     pub fn child_rank(&self, node: Node) -> Result<u32> {
-        self.number(node, Question::ChildRank(node))
+        one_number(self.as_bytes(), node, Question::ChildRank(node))
     }
 
     /// The child of that number, from 1; none for 0 and where there are not so many children.
@@ -346,9 +379,9 @@ impl<B: AsRef<[u8]>> Image<B> {
     ///
     /// # Errors
     ///
-    /// [`Error::NoSuchNode`](crate::Error::NoSuchNode); if the bytes have changed, those of [`Image::check`].
+    /// [`Error::NoSuchNode`]; if the bytes have changed, those of [`Image::check`].
     pub fn child(&self, node: Node, number: u32) -> Result<Option<Node>> {
-        self.node(node, Question::ChildNumber { node, number })
+        one_node(self.as_bytes(), node, Question::ChildNumber { node, number })
     }
 
     /// The sibling so many places to the right, to the left where negative; 0 places away is the node itself.
@@ -365,9 +398,9 @@ impl<B: AsRef<[u8]>> Image<B> {
     ///
     /// # Errors
     ///
-    /// [`Error::NoSuchNode`](crate::Error::NoSuchNode); if the bytes have changed, those of [`Image::check`].
+    /// [`Error::NoSuchNode`]; if the bytes have changed, those of [`Image::check`].
     pub fn sibling_at(&self, node: Node, right: i32) -> Result<Option<Node>> {
-        self.node(node, Question::SiblingAt { node, right })
+        one_node(self.as_bytes(), node, Question::SiblingAt { node, right })
     }
 
     /// Has the node no children?
@@ -383,9 +416,9 @@ impl<B: AsRef<[u8]>> Image<B> {
     ///
     /// # Errors
     ///
-    /// [`Error::NoSuchNode`](crate::Error::NoSuchNode); if the bytes have changed, those of [`Image::check`].
+    /// [`Error::NoSuchNode`]; if the bytes have changed, those of [`Image::check`].
     pub fn is_leaf(&self, node: Node) -> Result<bool> {
-        Ok(self.number(node, Question::Leaf(node))? != 0)
+        Ok(one_number(self.as_bytes(), node, Question::Leaf(node))? != 0)
     }
 
     /// The children, from first to last; none for a leaf.
@@ -402,10 +435,9 @@ impl<B: AsRef<[u8]>> Image<B> {
     ///
     /// # Errors
     ///
-    /// [`Error::NoSuchNode`](crate::Error::NoSuchNode); if the bytes have changed, those of [`Image::check`].
+    /// [`Error::NoSuchNode`]; if the bytes have changed, those of [`Image::check`].
     pub fn children(&self, node: Node) -> Result<Nodes> {
-        let [first, last] = self.ask_of(node, [Question::FirstChild(node), Question::LastChild(node)])?;
-        Ok(Nodes::between(Node::new(first), Node::new(last)))
+        children_of(self.as_bytes(), node)
     }
 
     /// The node and its siblings, from first to last; the root alone for the root.
@@ -422,18 +454,19 @@ impl<B: AsRef<[u8]>> Image<B> {
     ///
     /// # Errors
     ///
-    /// [`Error::NoSuchNode`](crate::Error::NoSuchNode); if the bytes have changed, those of [`Image::check`].
+    /// [`Error::NoSuchNode`]; if the bytes have changed, those of [`Image::check`].
     pub fn siblings(&self, node: Node) -> Result<Nodes> {
-        match self.parent(node)? {
-            Some(parent) => self.children(parent),
+        let image = self.as_bytes();
+        match one_node(image, node, Question::Parent(node))? {
+            Some(parent) => children_of(image, parent),
             None => Ok(Nodes::between(Some(node), Some(node))),
         }
     }
 
     /// One answer to each question, for any number of questions. Needs the feature `alloc`.
     ///
-    /// They are handed over in as few calls as there can be, of up to 256 questions each. If one of these is refused,
-    /// there are no answers.
+    /// They are handed over in as few calls as there can be, of up to 256 questions each; a list of no questions is one
+    /// call too, which makes the check. If one of these is refused, there are no answers.
     ///
     /// ```
     /// use parlaqen::{seal, Answer, Error, Node, Question};
@@ -444,20 +477,24 @@ impl<B: AsRef<[u8]>> Image<B> {
     ///
     /// let mut many = vec![Question::Parent(Node::ROOT); 1_000];
     /// many[699] = Question::Leaf(Node::try_from(8)?);
-    /// assert_eq!(image.ask(&many), Err(Error::NotAllowed { question: 700 }));
+    /// assert_eq!(image.ask(&many), Err(Error::NoSuchNodeAsked { question: 700, node: 8 }));
     /// # Ok::<(), Error>(())
     /// ```
     ///
     /// # Errors
     ///
-    /// [`Error::NotAllowed`](crate::Error::NotAllowed) with the lowest question, from 1 in the whole list, about a node
-    /// that the tree does not have; if the bytes have changed, those of [`Image::check`].
+    /// [`Error::NoSuchNodeAsked`] with the lowest question, from 1 in the whole list, about a node that the tree does
+    /// not have; if the bytes have changed, those of [`Image::check`].
     #[cfg(feature = "alloc")]
     pub fn ask(&self, questions: &[Question]) -> Result<Vec<Answer>> {
+        let image = self.as_bytes();
         let mut answers = vec![Answer::default(); questions.len()];
+        if questions.is_empty() {
+            answer_into(image, questions, &mut answers)?; // there is no chunk below, and the check is still to be made
+        }
         let calls = questions.chunks(MOST_QUESTIONS).zip(answers.chunks_mut(MOST_QUESTIONS));
         for (call, (questions, answers)) in calls.enumerate() {
-            let answered = self.ask_into(questions, answers);
+            let answered = answer_into(image, questions, answers);
             answered.map_err(|error| error.after_questions(call * MOST_QUESTIONS))?;
         }
         Ok(answers)
@@ -482,27 +519,11 @@ impl<B: AsRef<[u8]>> Image<B> {
     ///
     /// # Errors
     ///
-    /// [`Error::WrongSize`](crate::Error::WrongSize) for more than 256 questions;
-    /// [`Error::NotAllowed`](crate::Error::NotAllowed) with the lowest question, from 1, about a node that the tree
-    /// does not have; [`Error::NoRoom`](crate::Error::NoRoom) for fewer answers than questions; if the bytes have
+    /// [`Error::WrongSize`] for more than 256 questions; [`Error::NoSuchNodeAsked`] with the lowest question, from 1,
+    /// about a node that the tree does not have; [`Error::NoRoom`] for fewer answers than questions; if the bytes have
     /// changed, those of [`Image::check`].
     pub fn ask_into<'a>(&self, questions: &[Question], answers: &'a mut [Answer]) -> Result<&'a [Answer]> {
-        let image = self.as_bytes();
-        // To the library one question too many is as wrong as more of them, so no more need be handed over.
-        let mut numbers = [[0; NUMBERS_OF_QUESTION]; MOST_QUESTIONS + 1];
-        let handed_over = questions.len().min(numbers.len());
-        for (numbers, question) in numbers.iter_mut().zip(questions) {
-            *numbers = question.numbers();
-        }
-        let mut given = [0; MOST_QUESTIONS];
-        let room = answers.len().min(given.len());
-        let answer = sys::ask(image, numbers[..handed_over].as_flattened(), &mut given[..room]);
-        let numbers = NUMBERS_OF_QUESTION * questions.len();
-        let (answered, _) = counts(answer, Handed::ImageAndQuestions { bytes: image.len(), numbers })?;
-        for ((answer, question), number) in answers.iter_mut().zip(questions).zip(given) {
-            *answer = question.answer(number);
-        }
-        Ok(&answers[..answered as usize])
+        answer_into(self.as_bytes(), questions, answers)
     }
 
     /// `node` and everything below it, parents first, children in order. Needs the feature `alloc`.
@@ -521,14 +542,14 @@ impl<B: AsRef<[u8]>> Image<B> {
     ///
     /// # Errors
     ///
-    /// [`Error::NoSuchNode`](crate::Error::NoSuchNode), [`Error::TooDeep`](crate::Error::TooDeep); if the bytes have
-    /// changed, those of [`Image::check`] and [`Error::NoRoom`](crate::Error::NoRoom).
+    /// [`Error::NoSuchNode`], [`Error::TooDeep`]; if the bytes have changed, those of [`Image::check`] and
+    /// [`Error::NoRoom`].
     #[cfg(feature = "alloc")]
     pub fn list(&self, node: Node) -> Result<Listing<Vec<u32>>> {
         let mut numbers = vec![0; size::listing_numbers(self.counts.nodes as usize)];
         let listed = list(self.as_bytes(), node.get(), &mut numbers)?;
         numbers.truncate(size::listing_numbers(listed));
-        Ok(Listing::new(numbers, listed))
+        Listing::new(numbers, listed)
     }
 
     /// `node` and everything below it, parents first, children in order, with its numbers in a lent slice.
@@ -549,15 +570,14 @@ impl<B: AsRef<[u8]>> Image<B> {
     ///
     /// # Errors
     ///
-    /// [`Error::NoSuchNode`](crate::Error::NoSuchNode), [`Error::TooDeep`](crate::Error::TooDeep),
-    /// [`Error::NoRoom`](crate::Error::NoRoom); if the bytes have changed, those of [`Image::check`].
+    /// [`Error::NoSuchNode`], [`Error::TooDeep`], [`Error::NoRoom`]; if the bytes have changed, those of
+    /// [`Image::check`].
     pub fn list_in<'a>(&self, node: Node, numbers: &'a mut [u32]) -> Result<Listing<&'a [u32]>> {
         let listed = list(self.as_bytes(), node.get(), numbers)?;
-        Ok(Listing::new(numbers, listed))
+        Listing::new(numbers, listed)
     }
 
-    /// The parent list of the tree. Needs the feature `alloc`; without it there is
-    /// [`parents_of_image`](crate::parents_of_image).
+    /// The parent list of the tree. Needs the feature `alloc`; without it there is [`parents_of_image`].
     ///
     /// ```
     /// let image = parlaqen::seal(&[0, 1, 1, 1, 2, 2, 4])?;
@@ -567,7 +587,7 @@ impl<B: AsRef<[u8]>> Image<B> {
     ///
     /// # Errors
     ///
-    /// None but, if the bytes have changed, those of [`Image::check`] and [`Error::NoRoom`](crate::Error::NoRoom).
+    /// None but, if the bytes have changed, those of [`Image::check`] and [`Error::NoRoom`].
     #[cfg(feature = "alloc")]
     pub fn parents(&self) -> Result<Vec<u32>> {
         let mut parents = vec![0; self.counts.nodes as usize];
@@ -575,24 +595,72 @@ impl<B: AsRef<[u8]>> Image<B> {
         parents.truncate(nodes);
         Ok(parents)
     }
+}
 
-    /// The library's answers to questions that are all about one node.
-    fn ask_of<const N: usize>(&self, node: Node, questions: [Question; N]) -> Result<[u32; N]> {
-        let image = self.as_bytes();
-        let numbers = questions.map(Question::numbers);
-        let mut answers = [0; N];
-        let answer = sys::ask(image, numbers.as_flattened(), &mut answers);
-        counts(answer, Handed::ImageAndNode { bytes: image.len(), node: node.get() })?;
-        Ok(answers)
+// The following take bytes and no image. A method of the image asks for its bytes once and hands them down, so that all
+// of its calls to the library are about the same bytes, even if its container gives others every time.
+
+/// The library's answers to questions that are all about one node.
+fn ask_of<const N: usize>(image: &[u8], node: Node, questions: [Question; N]) -> Result<[u32; N]> {
+    let numbers = questions.map(Question::numbers);
+    let mut answers = [0; N];
+    let answer = sys::ask(image, numbers.as_flattened(), &mut answers);
+    counts(answer, Handed::ImageAndNode { bytes: image.len(), node: node.get() })?;
+    Ok(answers)
+}
+
+/// The answer to a question about a node, which is a number.
+fn one_number(image: &[u8], node: Node, question: Question) -> Result<u32> {
+    let [number] = ask_of(image, node, [question])?;
+    Ok(number)
+}
+
+/// The answer to a question about a node, which is a node or that there is none.
+fn one_node(image: &[u8], node: Node, question: Question) -> Result<Option<Node>> {
+    one_number(image, node, question).map(Node::new)
+}
+
+fn children_of(image: &[u8], node: Node) -> Result<Nodes> {
+    let [first, last] = ask_of(image, node, [Question::FirstChild(node), Question::LastChild(node)])?;
+    Ok(Nodes::between(Node::new(first), Node::new(last)))
+}
+
+/// One answer to each of up to 256 questions, in the beginning of `answers`.
+fn answer_into<'a>(image: &[u8], questions: &[Question], answers: &'a mut [Answer]) -> Result<&'a [Answer]> {
+    // To the library one question too many is as wrong as more of them, so no more need be handed over.
+    let mut numbers = [[0; NUMBERS_OF_QUESTION]; MOST_QUESTIONS + 1];
+    let handed_over = questions.len().min(numbers.len());
+    for (numbers, question) in numbers.iter_mut().zip(questions) {
+        *numbers = question.numbers();
     }
-
-    fn number(&self, node: Node, question: Question) -> Result<u32> {
-        let [number] = self.ask_of(node, [question])?;
-        Ok(number)
+    let mut given = [0; MOST_QUESTIONS];
+    let room = answers.len().min(given.len());
+    let answer = sys::ask(image, numbers[..handed_over].as_flattened(), &mut given[..room]);
+    let (answered, _) = counts(answer, Handed::ImageAndQuestions { bytes: image.len(), questions })?;
+    let answered = answers.get_mut(..answered as usize).ok_or(Error::UNLISTED_COUNTS)?;
+    for ((answer, question), number) in answered.iter_mut().zip(questions).zip(given) {
+        *answer = question.answer(number);
     }
+    Ok(answered)
+}
 
-    fn node(&self, node: Node, question: Question) -> Result<Option<Node>> {
-        self.number(node, question).map(Node::new)
+impl<B: AsRef<[u8]>> AsRef<[u8]> for Image<B> {
+    fn as_ref(&self) -> &[u8] {
+        self.as_bytes()
+    }
+}
+
+impl<B: AsRef<[u8]>, C: AsRef<[u8]>> PartialEq<Image<C>> for Image<B> {
+    fn eq(&self, other: &Image<C>) -> bool {
+        self.as_bytes() == other.as_bytes()
+    }
+}
+
+impl<B: AsRef<[u8]>> Eq for Image<B> {}
+
+impl<B: AsRef<[u8]>> Hash for Image<B> {
+    fn hash<H: Hasher>(&self, state: &mut H) {
+        self.as_bytes().hash(state);
     }
 }
 

@@ -2,21 +2,23 @@
 //! `include/parlaqen.h` for Rust.
 //!
 //! A parent list is sealed to an [`Image`], which answers by itself: the parent, children and siblings of a [`Node`],
-//! lists of [`Question`]s, and listings. `TreeString` and `Pack` are what is sent. All of them only hand over to the
-//! library, which makes every check itself: whatever is handed in, the answer is a result or an [`Error`] that says in
-//! words what is wrong and where, and has the library's code and place.
+//! lists of [`Question`]s, and listings. [`TreeString`] and [`Pack`] are what is sent. All of them only hand over to
+//! the library, which makes every check itself: whatever is handed in, the answer is a result or an [`Error`] that says
+//! in words what is wrong and where, and has the library's code and place.
+//!
+//! Every method that asks an image makes the whole check of it, so ask many questions at once.
 //!
 #![cfg_attr(feature = "alloc", doc = "```")]
 #![cfg_attr(not(feature = "alloc"), doc = "```text")]
-//! use parlaqen::{seal, Error, Image, Node};
+//! use parlaqen::{seal, Answer, Error, Image, Node, Question};
 //!
 //! let sealed = seal(&[0, 1, 1, 1, 2, 2, 4])?; // the parent of each node, in level order
 //! let copy: Vec<u8> = sealed.into_bytes(); // what a container keeps
 //!
-//! let diary = Image::check(copy)?; // a `Vec<u8>`, a `&[u8]`, an `Arc<[u8]>`; checked once and kept
-//! for week in diary.children(Node::ROOT)? {
-//!     println!("node {week} has {} runs", diary.degree(week)?);
-//! }
+//! let diary = Image::check(copy)?; // a `Vec<u8>`, a `&[u8]`, an `Arc<[u8]>`
+//! let weeks = diary.children(Node::ROOT)?;
+//! let runs_of_each: Vec<Question> = weeks.map(Question::Degree).collect();
+//! assert_eq!(diary.ask(&runs_of_each)?, [2, 0, 1].map(Answer::Number));
 //! assert_eq!(diary.parent(Node::try_from(7)?)?, Node::new(4));
 //!
 //! let refused = diary.parent(Node::try_from(9)?).unwrap_err();
@@ -36,17 +38,19 @@
 //! # Features
 //!
 //! The crate uses no `std`. The feature `alloc`, which is on by default, has everything that makes the room for its
-//! results itself: `seal`, `Image::ask`, `Image::list`, `Image::parents`, `TreeString` and `Pack`. Without it there are
-//! [`Image::seal_in`], [`Image::ask_into`], [`Image::list_in`], and the nine calls as functions of this crate. Those
-//! take lent slices, for which [`size`] has the sizes; a refused call leaves every slice as it was.
+//! results itself: [`seal`], [`Image::ask`], [`Image::list`], [`Image::parents`], [`TreeString`] and [`Pack`]. Without
+//! it there are [`Image::seal_in`], [`Image::ask_into`], [`Image::list_in`], and the nine calls of the header in
+//! [`calls`]. Those take lent slices, for which [`size`] has the sizes; a refused call leaves every slice as it was.
 //!
 //! # Fields
 //!
-//! Plain records of results, such as [`Counts`], `Part` and [`Listed`], have public fields and no rule between them.
-//! Types that keep something true, such as [`Image`], [`Node`], [`Nodes`], [`Listing`], `TreeString` and `Pack`, have
-//! private ones.
+//! Plain records of results, such as [`calls::Counts`], [`Part`] and [`Listed`], have public fields and no rule between
+//! them. Types that keep something true, such as [`Image`], [`Node`], [`Nodes`], [`Listing`], [`TreeString`] and
+//! [`Pack`], have private ones.
 
 #![no_std]
+// Links to what needs `alloc` lead nowhere without it; their names are still right.
+#![cfg_attr(not(feature = "alloc"), allow(rustdoc::broken_intra_doc_links))]
 
 // The library's sizes have 64 bits on every machine. A call with shorter ones would hand it lists of other lengths.
 #[cfg(not(target_pointer_width = "64"))]
@@ -57,7 +61,7 @@ extern crate alloc;
 #[cfg(test)]
 extern crate std;
 
-mod calls;
+pub mod calls;
 mod error;
 mod image;
 mod listing;
@@ -69,11 +73,7 @@ mod strings;
 #[allow(unsafe_code)]
 mod sys;
 
-pub use calls::{
-    ask, check_image, image_of_parents, join, list, parents_of_image, parents_of_string, split, string_of_parents,
-    Counts,
-};
-pub use error::{Error, Size};
+pub use error::{Error, WrongSize};
 #[cfg(feature = "alloc")]
 pub use image::seal;
 pub use image::Image;
@@ -87,7 +87,7 @@ pub use strings::{Pack, Part, TreeString};
 ///
 /// ```
 /// fn bits(parents: &[u32]) -> parlaqen::Result<usize> {
-///     parlaqen::string_of_parents(parents, &mut [0; 9])
+///     parlaqen::calls::string_of_parents(parents, &mut [0; 9])
 /// }
 /// assert_eq!(bits(&[0, 1]), Ok(5));
 /// ```
@@ -115,7 +115,7 @@ pub const MOST_BITS: usize = 131_071;
 ///
 /// ```
 /// let (mut starts, mut sizes) = ([0; parlaqen::MOST_TREES], [0; parlaqen::MOST_TREES]);
-/// parlaqen::split(&[0b1001_0000], 6, 2, &mut starts, &mut sizes)?;
+/// parlaqen::calls::split(&[0b1001_0000], 6, 2, &mut starts, &mut sizes)?;
 /// # Ok::<(), parlaqen::Error>(())
 /// ```
 pub const MOST_TREES: usize = 256;

@@ -2,7 +2,7 @@ use core::fmt;
 use core::iter::FusedIterator;
 use core::ops::Range;
 
-use crate::{size, Node};
+use crate::{size, Error, Node, Result};
 
 /// A node of a listing.
 ///
@@ -21,7 +21,7 @@ pub struct Listed {
 }
 
 /// A node and everything below it, parents first, children in order: an iterator over numbers that it owns
-/// (`Listing<Vec<u32>>`, from `Image::list`) or borrows (`Listing<&[u32]>`, from
+/// (`Listing<Vec<u32>>`, from [`Image::list`](crate::Image::list)) or borrows (`Listing<&[u32]>`, from
 /// [`Image::list_in`](crate::Image::list_in)).
 ///
 /// ```
@@ -47,8 +47,11 @@ pub struct Listing<N> {
 
 impl<N: AsRef<[u32]>> Listing<N> {
     /// The first `nodes` nodes of these numbers.
-    pub(crate) fn new(numbers: N, nodes: usize) -> Self {
-        Self { numbers, left: 0..nodes }
+    pub(crate) fn new(numbers: N, nodes: usize) -> Result<Self> {
+        if numbers.as_ref().len() < size::listing_numbers(nodes) {
+            return Err(Error::UNLISTED_COUNTS);
+        }
+        Ok(Self { numbers, left: 0..nodes })
     }
 
     fn listed(&self, which: usize) -> Option<Listed> {
@@ -90,5 +93,20 @@ impl<N: AsRef<[u32]>> FusedIterator for Listing<N> {}
 impl<N> fmt::Debug for Listing<N> {
     fn fmt(&self, f: &mut fmt::Formatter<'_>) -> fmt::Result {
         f.debug_struct("Listing").field("nodes_left", &self.left.len()).finish_non_exhaustive()
+    }
+}
+
+#[cfg(test)]
+mod tests {
+    use super::Listing;
+    use crate::Error;
+
+    #[test]
+    fn a_listing_of_more_nodes_than_there_are_numbers_is_refused() {
+        let numbers: &[u32] = &[1, 0, 2, 1];
+        assert!(Listing::new(numbers, 2).unwrap().map(|listed| listed.node.get()).eq([1, 2]));
+        for nodes in [3, u32::MAX as usize, usize::MAX] {
+            assert_eq!(Listing::new(numbers, nodes).unwrap_err(), Error::Unlisted { code: 0, place: 0 });
+        }
     }
 }

@@ -1,4 +1,5 @@
 use core::fmt;
+use core::hash::{Hash, Hasher};
 use core::iter::FusedIterator;
 use core::num::NonZeroU32;
 use core::ops::Range;
@@ -8,7 +9,7 @@ use crate::Error;
 /// The number of a node: from 1, in level order.
 ///
 /// It is a number alone and belongs to no image: one that a tree does not have is refused where it is asked for, with
-/// [`Error::NoSuchNode`] or [`Error::NotAllowed`]. No node has the number 0, so an `Option<Node>` is as small as a
+/// [`Error::NoSuchNode`] or [`Error::NoSuchNodeAsked`]. No node has the number 0, so an `Option<Node>` is as small as a
 /// `Node`, and `None` is what the library writes as 0.
 ///
 /// The numbers of nodes shift when a longer diary is sealed anew. What lasts is the path from the root: the number of
@@ -57,6 +58,26 @@ impl Node {
         }
     }
 
+    /// The node whose data are at that place of an array that has those of all nodes in level order: the one of the
+    /// next number. None where that number does not fit.
+    ///
+    /// ```
+    /// use parlaqen::Node;
+    ///
+    /// let names = ["season", "week", "run"];
+    /// let found = names.iter().position(|name| *name == "run").and_then(Node::from_index);
+    /// assert_eq!(found, Node::new(3));
+    /// assert_eq!(Node::from_index(usize::MAX), None);
+    /// ```
+    #[must_use]
+    pub const fn from_index(index: usize) -> Option<Self> {
+        if index < u32::MAX as usize {
+            Self::new(index as u32 + 1)
+        } else {
+            None
+        }
+    }
+
     /// The number, from 1.
     ///
     /// ```
@@ -77,6 +98,8 @@ impl Node {
     /// assert_eq!(names[Node::try_from(3)?.index()], "run");
     /// # Ok::<(), parlaqen::Error>(())
     /// ```
+    ///
+    /// [`from_index`](Self::from_index) is the way back.
     #[must_use]
     pub const fn index(self) -> usize {
         self.get() as usize - 1
@@ -119,7 +142,7 @@ impl TryFrom<u32> for Node {
 /// Nodes with consecutive numbers, from left to right: the children of a node, or a node with its siblings.
 ///
 /// An iterator that begins at both ends, knows its length and is empty for a leaf. It holds numbers alone and asks the
-/// image nothing more.
+/// image nothing more. Two are equal if they have the same nodes left, so all empty ones are.
 ///
 /// ```
 /// use parlaqen::{size, Image, Node};
@@ -132,13 +155,13 @@ impl TryFrom<u32> for Node {
 /// assert!(children.eq([Node::try_from(3)?]));
 /// # Ok::<(), parlaqen::Error>(())
 /// ```
-#[derive(Clone, Debug, PartialEq, Eq)]
+#[derive(Clone, Debug)]
 #[must_use = "these nodes are an iterator, which gives them only when it is asked for them"]
 pub struct Nodes(Range<u32>);
 
 impl Nodes {
     /// From one node to another; none at all where one of the two is missing.
-    pub(crate) fn between(first: Option<Node>, last: Option<Node>) -> Self {
+    pub(crate) const fn between(first: Option<Node>, last: Option<Node>) -> Self {
         match (first, last) {
             (Some(first), Some(last)) => Self(first.get()..last.get().saturating_add(1)),
             _ => Self(0..0),
@@ -157,8 +180,8 @@ impl Nodes {
     /// # Ok::<(), parlaqen::Error>(())
     /// ```
     #[must_use]
-    pub fn contains(&self, node: Node) -> bool {
-        self.0.contains(&node.get())
+    pub const fn contains(&self, node: Node) -> bool {
+        self.0.start <= node.get() && node.get() < self.0.end
     }
 
     /// The leftmost node of those that are left. It stays among them.
@@ -173,8 +196,12 @@ impl Nodes {
     /// # Ok::<(), parlaqen::Error>(())
     /// ```
     #[must_use]
-    pub fn leftmost(&self) -> Option<Node> {
-        self.clone().next()
+    pub const fn leftmost(&self) -> Option<Node> {
+        if self.is_empty() {
+            None
+        } else {
+            Node::new(self.0.start)
+        }
     }
 
     /// The rightmost node of those that are left. It stays among them.
@@ -189,8 +216,12 @@ impl Nodes {
     /// # Ok::<(), parlaqen::Error>(())
     /// ```
     #[must_use]
-    pub fn rightmost(&self) -> Option<Node> {
-        self.clone().next_back()
+    pub const fn rightmost(&self) -> Option<Node> {
+        if self.is_empty() {
+            None
+        } else {
+            Node::new(self.0.end - 1)
+        }
     }
 
     /// Is none left?
@@ -204,8 +235,22 @@ impl Nodes {
     /// # Ok::<(), parlaqen::Error>(())
     /// ```
     #[must_use]
-    pub fn is_empty(&self) -> bool {
-        self.0.is_empty()
+    pub const fn is_empty(&self) -> bool {
+        self.0.start >= self.0.end
+    }
+}
+
+impl PartialEq for Nodes {
+    fn eq(&self, other: &Self) -> bool {
+        (self.leftmost(), self.rightmost()) == (other.leftmost(), other.rightmost())
+    }
+}
+
+impl Eq for Nodes {}
+
+impl Hash for Nodes {
+    fn hash<H: Hasher>(&self, state: &mut H) {
+        (self.leftmost(), self.rightmost()).hash(state);
     }
 }
 

@@ -17,6 +17,7 @@ use crate::Node;
 /// # Ok::<(), parlaqen::Error>(())
 /// ```
 #[derive(Clone, Copy, Debug, PartialEq, Eq, Hash)]
+#[non_exhaustive]
 pub enum Question {
     /// Kind 1: the parent; none for the root.
     Parent(Node),
@@ -51,7 +52,7 @@ pub enum Question {
 }
 
 impl Question {
-    /// The question as the function [`ask`](crate::ask()) takes it: kind, node, argument.
+    /// The question as the function [`ask`](crate::calls::ask) takes it: kind, node, argument.
     ///
     /// ```
     /// use parlaqen::{Node, Question};
@@ -76,6 +77,22 @@ impl Question {
         };
         // A node or a child over i32::MAX becomes a negative one. No tree has either, and the library says so of both.
         [kind, node.get() as i32, argument]
+    }
+
+    /// The node that is asked about.
+    pub(crate) const fn node(self) -> Node {
+        match self {
+            Self::Parent(node)
+            | Self::FirstChild(node)
+            | Self::LastChild(node)
+            | Self::NextSibling(node)
+            | Self::PreviousSibling(node)
+            | Self::Degree(node)
+            | Self::ChildRank(node)
+            | Self::ChildNumber { node, .. }
+            | Self::Leaf(node)
+            | Self::SiblingAt { node, .. } => node,
+        }
     }
 
     /// The library's answer to this question.

@@ -21,9 +21,10 @@ const SAMPLES_OF_BLOCK: usize = 126;
 /// The ones from one sample to the next.
 const ONES_OF_SAMPLE: usize = 64;
 
-/// The bytes of the image of a tree, by the two counts of sealing and of the check.
+/// The bytes of the image of a tree, by the two counts of sealing and of the check: its nodes and the runs of ones in
+/// its string, which are one more than it has nodes with children.
 ///
-/// [`Counts::image_bytes`](crate::Counts::image_bytes) is the same for counts that are at hand.
+/// [`Counts::image_bytes`](crate::calls::Counts::image_bytes) is the same for counts that are at hand.
 ///
 /// ```
 /// use parlaqen::size::image_bytes;
@@ -32,10 +33,10 @@ const ONES_OF_SAMPLE: usize = 64;
 /// assert_eq!(image_bytes(65_535, 65_535), parlaqen::MOST_IMAGE_BYTES);
 /// ```
 #[must_use]
-pub const fn image_bytes(nodes: usize, runs: usize) -> usize {
+pub const fn image_bytes(nodes: usize, runs_of_ones: usize) -> usize {
     let blocks_of_r1 = nodes.div_ceil(BITS_OF_BLOCK);
     let blocks_of_r0 = nodes.saturating_add(1).div_ceil(BITS_OF_BLOCK);
-    let blocks_of_samples = runs.div_ceil(ONES_OF_SAMPLE).div_ceil(SAMPLES_OF_BLOCK);
+    let blocks_of_samples = runs_of_ones.div_ceil(ONES_OF_SAMPLE).div_ceil(SAMPLES_OF_BLOCK);
     BLOCK_BYTES * (1 + blocks_of_r1 + blocks_of_r0 + 2 * blocks_of_samples)
 }
 

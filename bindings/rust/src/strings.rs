@@ -1,7 +1,8 @@
 use alloc::{vec, vec::Vec};
 use core::fmt;
 
-use crate::{join, parents_of_string, size, split, string_of_parents, Error, Result, MOST_NODES, MOST_TREES};
+use crate::calls::{join, parents_of_string, split, string_of_parents};
+use crate::{size, Error, Result, MOST_NODES, MOST_TREES};
 
 /// A tree string: its bits, most significant first, in exactly as many bytes as they take. Needs the feature `alloc`.
 ///
@@ -9,9 +10,9 @@ use crate::{join, parents_of_string, size, split, string_of_parents, Error, Resu
 /// use parlaqen::TreeString;
 ///
 /// let sent = TreeString::of_parents(&[0, 1, 1, 1, 2, 2, 4])?;
-/// assert_eq!((sent.bits(), sent.bytes()), (15, &[0xBB, 0x20][..]));
+/// assert_eq!((sent.bits(), sent.as_bytes()), (15, &[0xBB, 0x20][..]));
 ///
-/// let got = TreeString::received(sent.bytes().to_vec(), sent.bits())?;
+/// let got = TreeString::received(sent.as_bytes().to_vec(), sent.bits())?;
 /// assert_eq!(got.parents()?, [0, 1, 1, 1, 2, 2, 4]);
 /// # Ok::<(), parlaqen::Error>(())
 /// ```
@@ -27,7 +28,7 @@ impl TreeString {
     /// ```
     /// use parlaqen::{Error, TreeString};
     ///
-    /// assert_eq!(TreeString::of_parents(&[0])?.bytes(), [0b1000_0000]);
+    /// assert_eq!(TreeString::of_parents(&[0])?.as_bytes(), [0b1000_0000]);
     /// assert_eq!(TreeString::of_parents(&[0, 0]), Err(Error::NotParents { entry: 2 }));
     /// # Ok::<(), Error>(())
     /// ```
@@ -68,12 +69,24 @@ impl TreeString {
     /// The bytes that hold the bits, exactly as many as they take.
     ///
     /// ```
-    /// assert_eq!(parlaqen::TreeString::of_parents(&[0, 1])?.bytes(), [0b1010_0000]);
+    /// assert_eq!(parlaqen::TreeString::of_parents(&[0, 1])?.as_bytes(), [0b1010_0000]);
     /// # Ok::<(), parlaqen::Error>(())
     /// ```
     #[must_use]
-    pub fn bytes(&self) -> &[u8] {
+    pub fn as_bytes(&self) -> &[u8] {
         &self.bytes
+    }
+
+    /// The bytes that hold the bits, owned.
+    ///
+    /// ```
+    /// let kept: Vec<u8> = parlaqen::TreeString::of_parents(&[0, 1])?.into_bytes();
+    /// assert_eq!(kept, [0b1010_0000]);
+    /// # Ok::<(), parlaqen::Error>(())
+    /// ```
+    #[must_use]
+    pub fn into_bytes(self) -> Vec<u8> {
+        self.bytes
     }
 
     /// The number of bits.
@@ -83,7 +96,7 @@ impl TreeString {
     /// # Ok::<(), parlaqen::Error>(())
     /// ```
     #[must_use]
-    pub fn bits(&self) -> usize {
+    pub const fn bits(&self) -> usize {
         self.bits
     }
 
@@ -94,7 +107,7 @@ impl TreeString {
     /// # Ok::<(), parlaqen::Error>(())
     /// ```
     #[must_use]
-    pub fn nodes(&self) -> u32 {
+    pub const fn nodes(&self) -> u32 {
         (self.bits / 2) as u32
     }
 
@@ -115,6 +128,12 @@ impl TreeString {
     }
 }
 
+impl AsRef<[u8]> for TreeString {
+    fn as_ref(&self) -> &[u8] {
+        self.as_bytes()
+    }
+}
+
 impl fmt::Debug for TreeString {
     fn fmt(&self, f: &mut fmt::Formatter<'_>) -> fmt::Result {
         f.debug_struct("TreeString").field("nodes", &self.nodes()).field("bits", &self.bits).finish_non_exhaustive()
@@ -130,11 +149,11 @@ impl fmt::Debug for TreeString {
 /// sent.join(&[0, 1, 1])?;
 /// sent.join(&[0])?;
 ///
-/// let got = Pack::received(sent.bytes().to_vec(), sent.bits(), sent.trees())?;
+/// let got = Pack::received(sent.as_bytes().to_vec(), sent.bits(), sent.trees())?;
 /// assert_eq!(got.split()?, [Part { start: 1, nodes: 3 }, Part { start: 8, nodes: 1 }]);
 /// assert_eq!(got.parent_lists()?, [vec![0, 1, 1], vec![0]]);
 ///
-/// let mut damaged = sent.bytes().to_vec();
+/// let mut damaged = sent.as_bytes().to_vec();
 /// damaged[0] ^= 0b0010_0000; // now two trees of one node, and at bit 7 none begins
 /// assert_eq!(Pack::received(damaged, sent.bits(), 2), Err(Error::NotString { bit: 7 }));
 /// # Ok::<(), Error>(())
@@ -182,7 +201,7 @@ impl Pack {
     /// use parlaqen::{Error, Pack};
     ///
     /// assert_eq!(Pack::received(vec![0b1001_0000], 6, 2)?.trees(), 2);
-    /// assert_eq!(Pack::received(vec![0b1001_0000], 6, 3), Err(Error::OtherTrees { found: 2 }));
+    /// assert_eq!(Pack::received(vec![0b1001_0000], 6, 3), Err(Error::OtherTrees { found: 2, given: 3 }));
     /// # Ok::<(), Error>(())
     /// ```
     ///
@@ -201,12 +220,26 @@ impl Pack {
     /// ```
     /// let mut pack = parlaqen::Pack::new();
     /// pack.join(&[0])?;
-    /// assert_eq!(pack.bytes(), [0b1000_0000]);
+    /// assert_eq!(pack.as_bytes(), [0b1000_0000]);
     /// # Ok::<(), parlaqen::Error>(())
     /// ```
     #[must_use]
-    pub fn bytes(&self) -> &[u8] {
+    pub fn as_bytes(&self) -> &[u8] {
         &self.bytes
+    }
+
+    /// The bytes that hold the bits, owned.
+    ///
+    /// ```
+    /// let mut pack = parlaqen::Pack::new();
+    /// pack.join(&[0])?;
+    /// let kept: Vec<u8> = pack.into_bytes();
+    /// assert_eq!(kept, [0b1000_0000]);
+    /// # Ok::<(), parlaqen::Error>(())
+    /// ```
+    #[must_use]
+    pub fn into_bytes(self) -> Vec<u8> {
+        self.bytes
     }
 
     /// The number of bits.
@@ -218,7 +251,7 @@ impl Pack {
     /// # Ok::<(), parlaqen::Error>(())
     /// ```
     #[must_use]
-    pub fn bits(&self) -> usize {
+    pub const fn bits(&self) -> usize {
         self.bits
     }
 
@@ -231,7 +264,7 @@ impl Pack {
     /// # Ok::<(), parlaqen::Error>(())
     /// ```
     #[must_use]
-    pub fn trees(&self) -> usize {
+    pub const fn trees(&self) -> usize {
         self.trees
     }
 
@@ -299,17 +332,18 @@ impl Pack {
     /// None are known, since these bits were found to be a pack; the library, which looks again, would say.
     pub fn parent_lists(&self) -> Result<Vec<Vec<u32>>> {
         let parts = self.split()?;
-        parts.into_iter().map(|part| self.moved(part).parents()).collect()
+        parts.into_iter().map(|part| self.moved(part).ok_or(Error::UNLISTED_COUNTS)?.parents()).collect()
     }
 
-    /// The bits of a part of this pack, moved to begin at the first bit.
-    fn moved(&self, part: Part) -> TreeString {
+    /// The bits of a part of this pack, moved to begin at the first bit; none where the pack does not have them all.
+    fn moved(&self, part: Part) -> Option<TreeString> {
         let bits = size::string_bits(part.nodes as usize);
-        let before = part.start as usize - 1;
+        let before = part.start.checked_sub(1)? as usize;
         let (first, shift) = (before / 8, before % 8);
-        let moved = (first..first + size::bytes_of_bits(bits)).map(|at| {
-            let next = self.bytes.get(at + 1).copied().unwrap_or_default();
-            let [moved, _] = (u16::from_be_bytes([self.bytes[at], next]) << shift).to_be_bytes();
+        let end = first + size::bytes_of_bits(bits);
+        let moved = self.bytes.get(first..end)?.iter().enumerate().map(|(at, byte)| {
+            let next = self.bytes.get(first + at + 1).copied().unwrap_or_default();
+            let [moved, _] = (u16::from_be_bytes([*byte, next]) << shift).to_be_bytes();
             moved
         });
         let mut bytes: Vec<u8> = moved.collect();
@@ -318,7 +352,13 @@ impl Pack {
         if let Some(last) = bytes.last_mut() {
             *last = *last >> leftover << leftover;
         }
-        TreeString { bytes, bits }
+        Some(TreeString { bytes, bits })
+    }
+}
+
+impl AsRef<[u8]> for Pack {
+    fn as_ref(&self) -> &[u8] {
+        self.as_bytes()
     }
 }
 

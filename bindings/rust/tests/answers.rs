@@ -5,14 +5,12 @@ mod common;
 #[cfg(feature = "alloc")]
 use common::{binary, path, star};
 use common::{image_of, image_of_t, T};
-use parlaqen::{
-    ask, check_image, list, parents_of_image, parents_of_string, split, string_of_parents, Answer, Counts, Image, Node,
-    Question, MOST_QUESTIONS,
-};
+use parlaqen::calls::{ask, check_image, list, parents_of_image, parents_of_string, split, string_of_parents, Counts};
 #[cfg(feature = "alloc")]
 use parlaqen::{
     seal, Listed, Pack, Part, TreeString, BLOCK_BYTES, MOST_BITS, MOST_IMAGE_BYTES, MOST_NODES, MOST_TREES,
 };
+use parlaqen::{Answer, Image, Node, Question, MOST_QUESTIONS};
 
 /// Trees of several shapes and sizes, the largest included.
 #[cfg(feature = "alloc")]
@@ -33,8 +31,12 @@ fn every_tree_comes_back_from_its_string_and_from_its_image() {
         assert_eq!(string.bits(), 2 * parents.len() + 1);
         assert_eq!(string.nodes() as usize, parents.len());
         assert_eq!(string.parents().unwrap(), parents);
-        let received = TreeString::received(string.bytes().to_vec(), string.bits()).unwrap();
+        let received = TreeString::received(string.as_bytes().to_vec(), string.bits()).unwrap();
         assert_eq!(received, string);
+        assert_eq!(
+            (received.as_ref(), received.clone().into_bytes().as_slice()),
+            (string.as_bytes(), string.as_bytes())
+        );
         assert_eq!(received.parents().unwrap(), parents);
 
         let image = seal(&parents).unwrap();
@@ -172,8 +174,9 @@ fn a_pack_gives_its_trees_back() {
     for day in 0..MOST_TREES as u32 {
         pack.join(&path(day + 1)).unwrap();
     }
-    let received = Pack::received(pack.bytes().to_vec(), pack.bits(), pack.trees()).unwrap();
+    let received = Pack::received(pack.as_bytes().to_vec(), pack.bits(), pack.trees()).unwrap();
     assert_eq!(received, pack);
+    assert_eq!((received.as_ref(), received.clone().into_bytes().as_slice()), (pack.as_bytes(), pack.as_bytes()));
     let mut start = 1;
     for (part, nodes) in received.split().unwrap().into_iter().zip(1..) {
         assert_eq!(part, Part { start, nodes });
@@ -211,7 +214,7 @@ fn what_lies_after_the_needed_room_stays() {
     let mut pairs = [77; 5];
     assert_eq!(list(&image_of_t(), 4, &mut pairs), Ok(2));
     assert_eq!(pairs, [4, 0, 7, 1, 77]);
-    assert_eq!(check_image(&image_of_t()), Ok(Counts { nodes: 7, runs: 4 }));
+    assert_eq!(check_image(&image_of_t()), Ok(Counts { nodes: 7, runs_of_ones: 4 }));
 }
 
 #[test]

@@ -3,9 +3,10 @@
 mod common;
 
 use common::{binary, path, star};
+use parlaqen::calls::{check_image, image_of_parents, list, string_of_parents, Counts};
 use parlaqen::{
-    check_image, image_of_parents, list, size, string_of_parents, Counts, Error, Node, Question, Size, BLOCK_BYTES,
-    MOST_BITS, MOST_IMAGE_BYTES, MOST_NODES, MOST_QUESTIONS, MOST_TREES, VERSION,
+    size, Error, Node, Question, WrongSize, BLOCK_BYTES, MOST_BITS, MOST_IMAGE_BYTES, MOST_NODES, MOST_QUESTIONS,
+    MOST_TREES, VERSION,
 };
 
 const HEADER: &str = include_str!("../../../include/parlaqen.h");
@@ -164,7 +165,7 @@ fn kinds() {
 fn codes() {
     for (name, error) in [
         ("PLQ_NO_ROOM", Error::NoRoom),
-        ("PLQ_WRONG_SIZE", Error::WrongSize(Size::Unlisted)),
+        ("PLQ_WRONG_SIZE", Error::WrongSize(WrongSize::Unlisted)),
         ("PLQ_NOT_PARENTS", Error::NotParents { entry: 1 }),
         ("PLQ_NOT_STRING", Error::NotString { bit: 1 }),
         ("PLQ_NOT_STRING", Error::EndsTooEarly { bits: 1 }),
@@ -173,8 +174,9 @@ fn codes() {
         ("PLQ_NOT_IMAGE", Error::NotImage),
         ("PLQ_NOT_ALLOWED", Error::NotAllowed { question: 1 }),
         ("PLQ_NOT_ALLOWED", Error::NoSuchNode { node: 1 }),
+        ("PLQ_NOT_ALLOWED", Error::NoSuchNodeAsked { question: 1, node: 1 }),
         ("PLQ_TOO_DEEP", Error::TooDeep { node: 1 }),
-        ("PLQ_OTHER_TREES", Error::OtherTrees { found: 1 }),
+        ("PLQ_OTHER_TREES", Error::OtherTrees { found: 1, given: 2 }),
     ] {
         assert_eq!(header(name), error.code() as usize, "{name}");
     }
@@ -189,7 +191,7 @@ fn sizes_are_those_of_the_macros() {
         let n = nodes as usize;
         for m in [1, 2, 63, 64, 65, 8_063, 8_064, 8_065, 16_128, 16_129, n].into_iter().filter(|m| *m <= n) {
             assert_eq!(size::image_bytes(n, m), value("PLQ_IMAGE_BYTES", &[n, m]), "n {n}, m {m}");
-            let counts = Counts { nodes, runs: m as u32 };
+            let counts = Counts { nodes, runs_of_ones: m as u32 };
             assert_eq!(counts.image_bytes(), size::image_bytes(n, m));
         }
         assert_eq!(size::image_room(n), value("PLQ_IMAGE_ROOM", &[n]));

@@ -3,6 +3,7 @@
 mod common;
 
 use std::cell::Cell;
+use std::collections::HashSet;
 use std::rc::Rc;
 use std::sync::Arc;
 use std::thread;
@@ -45,8 +46,25 @@ fn an_image_owns_borrows_or_shares_its_bytes() {
     let copied = tried(&bytes[..]);
     let again = copied;
     assert_eq!(copied, again);
+    assert_eq!(copied.as_ref(), bytes);
     let screens = [tried(bytes.clone()), tried(bytes.clone()).clone()];
     assert_eq!(screens[0], screens[1]);
+}
+
+#[test]
+fn images_are_equal_by_their_bytes_in_whatever_they_are() {
+    let bytes = image_of_t();
+    let (owned, shared) = (Image::check(bytes.clone()).unwrap(), Image::check(Arc::<[u8]>::from(&bytes[..])).unwrap());
+    let borrowed = Image::check(&bytes[..]).unwrap();
+    assert_eq!(owned, borrowed);
+    assert_eq!(borrowed, shared);
+    assert_eq!(shared, owned);
+    let other = Image::check(image_of(&[0, 1])).unwrap();
+    assert_ne!(borrowed, other);
+
+    let mut found = HashSet::from([owned.clone()]);
+    assert!(!found.insert(owned));
+    assert!(found.insert(other));
 }
 
 #[test]
@@ -61,7 +79,12 @@ fn an_image_sealed_in_a_lent_buffer_is_over_its_used_part() {
         #[cfg(feature = "alloc")]
         assert_eq!(seal(&parents).unwrap().as_bytes(), &room[..used]);
     }
+    /// What needs no bytes is there for an image of anything.
+    const fn nodes<B>(image: &Image<B>) -> (u32, u32, bool) {
+        (image.nodes(), image.nodes_with_children(), image.all_nodes().contains(Node::ROOT))
+    }
     const ROOM: usize = size::image_room(7);
+    assert_eq!(nodes(&Image::seal_in(&T, &mut [0; ROOM]).unwrap()), (7, 3, true));
     assert_eq!(Image::seal_in(&T, &mut [0; ROOM]).unwrap().nodes(), 7);
 }
 
@@ -90,6 +113,8 @@ fn bytes_that_change_after_the_check_do_no_harm() {
     chosen.set(1);
     assert_eq!(image.parent(node(3)).unwrap(), Node::new(2));
     assert_eq!(image.parent(node(7)), Err(Error::NoSuchNode { node: 7 }));
+    // what was counted by the check stays
+    assert_eq!((image.nodes(), image.nodes_with_children(), image.all_nodes().len()), (7, 3, 7));
     #[cfg(feature = "alloc")]
     assert_eq!(image.parents().unwrap(), [0, 1, 2]);
 
@@ -98,7 +123,10 @@ fn bytes_that_change_after_the_check_do_no_harm() {
     assert_eq!(image.parent(node(3)), Err(refused));
     assert_eq!(image.children(node(1)), Err(refused));
     assert_eq!(image.ask_into(&[Question::Parent(Node::ROOT)], &mut [Answer::default()]), Err(refused));
+    assert_eq!(image.ask_into(&[], &mut []), Err(refused));
     assert_eq!(image.list_in(Node::ROOT, &mut [0; 14]).unwrap_err(), refused);
+    #[cfg(feature = "alloc")]
+    assert_eq!(image.ask(&[]), Err(refused));
 
     chosen.set(3);
     assert_eq!(image.degree(Node::ROOT).unwrap_err().code(), 2);
@@ -108,6 +136,84 @@ fn bytes_that_change_after_the_check_do_no_harm() {
     assert_eq!(image.list_in(node(65_000), &mut [0; 14]).unwrap_err(), Error::TooDeep { node: 65_064 });
     #[cfg(feature = "alloc")]
     assert_eq!(image.parents(), Err(Error::NoRoom));
+}
+
+/// Bytes that are other ones at every call: those of the images, in turn.
+struct Turning {
+    images: Vec<Vec<u8>>,
+    calls: Rc<Cell<usize>>,
+}
+
+impl AsRef<[u8]> for Turning {
+    fn as_ref(&self) -> &[u8] {
+        let call = self.calls.replace(self.calls.get() + 1);
+        &self.images[call % self.images.len()]
+    }
+}
+
+/// In one tree the parent of node 3 is the root, in the other it is node 2, and the third image is none: an answer that
+/// is put together from two of them would be that of no tree.
+#[test]
+fn every_method_asks_for_its_bytes_once() {
+    let mut damaged = image_of_t();
+    damaged[2 * BLOCK_BYTES] ^= 4;
+    let calls = Rc::new(Cell::new(0));
+    let images = vec![image_of(&[0, 1, 1, 1, 1]), image_of(&[0, 1, 2, 2, 2]), damaged];
+    let refused = Error::WrongSums { block: 2 };
+    let image = Image::check(Turning { images, calls: calls.clone() }).unwrap();
+    assert_eq!(calls.get(), 1);
+
+    let numbers = |nodes: Nodes| nodes.map(Node::get).collect::<Vec<u32>>();
+    /// Makes a call with each of the three images, and sees that none of them asks for its bytes twice.
+    macro_rules! in_turn {
+        ($call:expr, $of_star:expr, $of_path:expr) => {
+            for (turn, expected) in [Ok($of_star), Ok($of_path), Err(refused)].into_iter().enumerate() {
+                calls.set(turn);
+                assert_eq!($call, expected, "{}, image {turn}", stringify!($call));
+                assert_eq!(calls.get(), turn + 1, "{}", stringify!($call));
+            }
+        };
+    }
+    let three = node(3);
+    in_turn!(image.parent(three), Node::new(1), Node::new(2));
+    in_turn!(image.first_child(Node::ROOT), Node::new(2), Node::new(2));
+    in_turn!(image.last_child(Node::ROOT), Node::new(5), Node::new(2));
+    in_turn!(image.next_sibling(node(2)), Node::new(3), None);
+    in_turn!(image.previous_sibling(three), Node::new(2), None);
+    in_turn!(image.degree(Node::ROOT), 4, 1);
+    in_turn!(image.child_rank(three), 2, 1);
+    in_turn!(image.child(Node::ROOT, 2), Node::new(3), None);
+    in_turn!(image.sibling_at(three, -1), Node::new(2), None);
+    in_turn!(image.is_leaf(node(2)), true, false);
+    in_turn!(image.children(Node::ROOT).map(numbers), vec![2, 3, 4, 5], vec![2]);
+    in_turn!(image.siblings(three).map(numbers), vec![2, 3, 4, 5], vec![3, 4, 5]);
+    let asked = [Question::Parent(three)];
+    let (star, path) = (Answer::Node(Node::new(1)), Answer::Node(Node::new(2)));
+    in_turn!(image.ask_into(&asked, &mut [Answer::default()]).map(<[Answer]>::to_vec), vec![star], vec![path]);
+    let listed = |listing: Listing<&[u32]>| listing.map(|listed| listed.depth).collect::<Vec<u32>>();
+    in_turn!(image.list_in(Node::ROOT, &mut [0; 10]).map(listed), vec![0, 1, 1, 1, 1], vec![0, 1, 2, 2, 2]);
+    #[cfg(feature = "alloc")]
+    {
+        for count in [0, 1, 256, 257, 1_000] {
+            in_turn!(image.ask(&vec![asked[0]; count]), vec![star; count], vec![path; count]);
+        }
+        let listed = |listing: Listing<Vec<u32>>| listing.map(|listed| listed.depth).collect::<Vec<u32>>();
+        in_turn!(image.list(Node::ROOT).map(listed), vec![0, 1, 1, 1, 1], vec![0, 1, 2, 2, 2]);
+        in_turn!(image.parents(), vec![0, 1, 1, 1, 1], vec![0, 1, 2, 2, 2]);
+    }
+
+    calls.set(0);
+    assert_eq!(format!("{image:?}"), "Image { nodes: 5, nodes_with_children: 1, bytes: 2560, .. }");
+    assert_eq!(calls.get(), 1);
+    calls.set(0);
+    let star = Image::check(image_of(&[0, 1, 1, 1, 1])).unwrap();
+    assert!(image == star && calls.get() == 1);
+    assert!(image != star && calls.get() == 2);
+
+    // what the check found is kept and asks for no bytes
+    calls.set(0);
+    assert_eq!((image.nodes(), image.nodes_with_children(), image.all_nodes().len()), (5, 1, 5));
+    assert_eq!(calls.get(), 0);
 }
 
 #[test]

@@ -163,6 +163,37 @@ fn a_leaf_has_an_empty_range_of_children() {
 }
 
 #[test]
+fn ranges_are_equal_exactly_if_they_have_the_same_nodes_left() {
+    use std::collections::HashSet;
+
+    let image = Image::check(image_of_t()).unwrap();
+    let exhausted = |number| {
+        let mut children = image.children(node(number)).unwrap();
+        assert!(children.by_ref().last().is_some());
+        children
+    };
+    let mut from_the_right = image.all_nodes();
+    assert_eq!(from_the_right.by_ref().rev().count(), 7);
+    let mut beyond = image.all_nodes();
+    assert_eq!(beyond.nth(9), None);
+    let none = [image.children(node(3)).unwrap(), exhausted(1), exhausted(4), from_the_right, beyond];
+    for one in &none {
+        assert!(one.is_empty());
+        assert!(none.iter().all(|other| one == other));
+        assert_ne!(*one, image.all_nodes());
+    }
+    assert_eq!(none.into_iter().collect::<HashSet<Nodes>>().len(), 1);
+
+    let mut some = image.all_nodes();
+    assert_eq!(some.next(), Some(Node::ROOT));
+    assert_eq!(some.nth_back(2), Some(node(5)));
+    let others = [image.children(Node::ROOT).unwrap(), image.siblings(node(3)).unwrap(), some];
+    assert!(others.iter().all(|other| numbers(other) == [2, 3, 4]));
+    assert_eq!(others.into_iter().collect::<HashSet<Nodes>>().len(), 1);
+    assert_ne!(image.children(Node::ROOT).unwrap(), image.children(node(2)).unwrap());
+}
+
+#[test]
 fn no_node_is_zero() {
     use std::mem::size_of;
     use std::num::NonZeroU32;
@@ -174,6 +205,15 @@ fn no_node_is_zero() {
     assert_eq!(Node::from(NonZeroU32::MAX).get(), u32::MAX);
     assert_eq!((u32::from(node(7)), node(7).get(), node(7).index()), (7, 7, 6));
     assert_eq!(Node::try_from(1), Ok(Node::ROOT));
+    const SEVENTH: Option<Node> = Node::from_index(6);
+    assert_eq!(SEVENTH, Some(node(7)));
+    for index in [0, 6, u32::MAX as usize - 1] {
+        assert_eq!(Node::from_index(index).unwrap().index(), index);
+    }
+    assert_eq!(Node::from_index(u32::MAX as usize - 1), Node::new(u32::MAX));
+    for index in [u32::MAX as usize, u32::MAX as usize + 1, usize::MAX] {
+        assert_eq!(Node::from_index(index), None);
+    }
     assert_eq!((node(7).to_string(), format!("{:>3}", node(7))), ("7".to_string(), "  7".to_string()));
     assert_eq!(format!("{:?}", node(7)), "Node(7)");
     assert!(node(2) < node(10) && Node::ROOT <= Node::ROOT);

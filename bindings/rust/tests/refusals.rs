@@ -3,13 +3,15 @@
 mod common;
 
 use common::{image_of, image_of_t, path, T};
-use parlaqen::{
+use parlaqen::calls::{
     ask, check_image, image_of_parents, join, list, parents_of_image, parents_of_string, split, string_of_parents,
-    Answer, Error, Image, Node, Question, Result, Size, BLOCK_BYTES, MOST_BITS, MOST_IMAGE_BYTES, MOST_NODES,
-    MOST_QUESTIONS, MOST_TREES,
 };
 #[cfg(feature = "alloc")]
 use parlaqen::{seal, Pack, TreeString};
+use parlaqen::{
+    Answer, Error, Image, Node, Question, Result, WrongSize, BLOCK_BYTES, MOST_BITS, MOST_IMAGE_BYTES, MOST_NODES,
+    MOST_QUESTIONS, MOST_TREES,
+};
 
 /// Lends `room` elements of `pattern` to a call that is to be refused, and sees that none of them changed.
 fn refused<E: Copy + PartialEq + std::fmt::Debug, R: std::fmt::Debug>(
@@ -25,7 +27,7 @@ fn refused<E: Copy + PartialEq + std::fmt::Debug, R: std::fmt::Debug>(
 
 /// The refusal of a parent list by its number of numbers.
 fn wrong_nodes(nodes: usize) -> Error {
-    Error::WrongSize(Size::Nodes { nodes })
+    Error::WrongSize(WrongSize::Nodes { nodes })
 }
 
 /// Makes the two sums of every block right again after something in it was changed.
@@ -50,13 +52,16 @@ fn bad_images() -> Vec<(Vec<u8>, Error)> {
         change(&mut image);
         image
     };
-    let wrong_blocks = |blocks| Error::WrongSize(Size::ImageBlocks { blocks });
+    let too_long = |bytes| Error::WrongSize(WrongSize::ImageTooLong { bytes });
+    let wrong_blocks = |blocks| Error::WrongSize(WrongSize::ImageBlocks { blocks });
     vec![
         (vec![], wrong_blocks(0)),
         (with(|image| image.truncate(4 * BLOCK_BYTES)), wrong_blocks(4)),
-        (with(|image| image.push(0)), Error::WrongSize(Size::ImageBytes { bytes: 2_561 })),
-        (with(|image| image.truncate(1)), Error::WrongSize(Size::ImageBytes { bytes: 1 })),
-        (vec![0; MOST_IMAGE_BYTES + BLOCK_BYTES], wrong_blocks(54)),
+        (with(|image| image.push(0)), Error::WrongSize(WrongSize::ImageBytes { bytes: 2_561 })),
+        (with(|image| image.truncate(1)), Error::WrongSize(WrongSize::ImageBytes { bytes: 1 })),
+        (vec![0; MOST_IMAGE_BYTES - 1], Error::WrongSize(WrongSize::ImageBytes { bytes: 27_135 })),
+        (vec![0; MOST_IMAGE_BYTES + 1], too_long(27_137)),
+        (vec![0; MOST_IMAGE_BYTES + BLOCK_BYTES], too_long(27_648)),
         (with(|image| image[4] ^= 1), Error::WrongSums { block: 0 }),
         (with(|image| image[2 * BLOCK_BYTES - 1] ^= 0x80), Error::WrongSums { block: 1 }),
         (
@@ -98,10 +103,10 @@ fn string_of_parents_refuses() {
 #[test]
 fn parents_of_string_refuses() {
     let read = |bytes: &[u8], bits, room| refused(room, 77, |parents| parents_of_string(bytes, bits, parents));
-    assert_eq!(read(&[0xBB, 0x20], 16 + 1, 9), Error::WrongSize(Size::Bytes { bytes: 2, bits: 17 }));
-    assert_eq!(read(&[0xBB, 0x20, 0], 15, 9), Error::WrongSize(Size::Bytes { bytes: 3, bits: 15 }));
-    assert_eq!(read(&[0xBB, 0x20], MOST_BITS + 1, 9), Error::WrongSize(Size::Bits { bits: 131_072 }));
-    assert_eq!(read(&[0xBB, 0x20], usize::MAX, 9), Error::WrongSize(Size::Bits { bits: usize::MAX }));
+    assert_eq!(read(&[0xBB, 0x20], 16 + 1, 9), Error::WrongSize(WrongSize::Bytes { bytes: 2, bits: 17 }));
+    assert_eq!(read(&[0xBB, 0x20, 0], 15, 9), Error::WrongSize(WrongSize::Bytes { bytes: 3, bits: 15 }));
+    assert_eq!(read(&[0xBB, 0x20], MOST_BITS + 1, 9), Error::WrongSize(WrongSize::Bits { bits: 131_072 }));
+    assert_eq!(read(&[0xBB, 0x20], usize::MAX, 9), Error::WrongSize(WrongSize::Bits { bits: usize::MAX }));
     assert_eq!(read(&[0xBB, 0x21], 15, 9), Error::LeftoverSet);
     assert_eq!(read(&[0b1100_0000], 3, 9), Error::NotString { bit: 2 });
     assert_eq!(read(&[0b1000_0000], 2, 9), Error::EndsTooEarly { bits: 2 });
@@ -159,8 +164,8 @@ fn parents_of_image_refuses() {
 fn ask_refuses() {
     let image = image_of_t();
     let asked = |questions: &[i32], room| refused(room, 77, |answers| ask(&image, questions, answers));
-    assert_eq!(asked(&[1, 1], 9), Error::WrongSize(Size::QuestionNumbers { numbers: 2 }));
-    let too_many = Error::WrongSize(Size::Questions { questions: 257 });
+    assert_eq!(asked(&[1, 1], 9), Error::WrongSize(WrongSize::QuestionNumbers { numbers: 2 }));
+    let too_many = Error::WrongSize(WrongSize::Questions { questions: 257 });
     assert_eq!(asked(&[1; 3 * (MOST_QUESTIONS + 1)], 300), too_many);
     assert_eq!(asked(&[0, 1, 0], 9), Error::NotAllowed { question: 1 });
     assert_eq!(asked(&[1, 1, 0, 11, 1, 0], 9), Error::NotAllowed { question: 2 });
@@ -195,13 +200,15 @@ fn asking_into_a_lent_slice_refuses() {
     };
     let parent = Question::Parent(Node::ROOT);
     for count in [257, 258, 1_000, 65_536] {
-        let too_many = Error::WrongSize(Size::Questions { questions: count });
+        let too_many = Error::WrongSize(WrongSize::Questions { questions: count });
         assert_eq!(asked(&vec![parent; count], count), too_many);
         assert_eq!(asked(&vec![parent; count], 0), too_many);
     }
     assert_eq!(asked(&[parent; 256], 255), Error::NoRoom);
     assert_eq!(asked(&[parent; 1], 0), Error::NoRoom);
-    assert_eq!(asked(&[parent, Question::Leaf(Node::new(8).unwrap())], 9), Error::NotAllowed { question: 2 });
+    let no_node = [parent, Question::Leaf(Node::new(8).unwrap())];
+    assert_eq!(asked(&no_node, 9), Error::NoSuchNodeAsked { question: 2, node: 8 });
+    assert_eq!(asked(&no_node, 0), Error::NoSuchNodeAsked { question: 2, node: 8 });
 }
 
 #[test]
@@ -212,7 +219,8 @@ fn a_node_that_the_tree_does_not_have_is_refused_in_every_question() {
         for question in questions_about(node) {
             let mut answers = [Answer::Number(77); 2];
             let error = image.ask_into(&[Question::Parent(Node::ROOT), question], &mut answers).unwrap_err();
-            assert_eq!(error, Error::NotAllowed { question: 2 });
+            assert_eq!(error, Error::NoSuchNodeAsked { question: 2, node: number });
+            assert_eq!((error.code(), error.place()), (8, 2));
             assert_eq!(answers, [Answer::Number(77); 2]);
             #[cfg(feature = "alloc")]
             assert_eq!(image.ask(&[Question::Parent(Node::ROOT), question]), Err(error));
@@ -260,7 +268,7 @@ fn a_refused_question_is_counted_in_the_whole_list() {
             let mut questions = vec![Question::Degree(Node::ROOT); count];
             questions[which - 1] = wrong;
             *questions.last_mut().unwrap() = wrong; // the lowest is given
-            assert_eq!(image.ask(&questions), Err(Error::NotAllowed { question: which as u32 }));
+            assert_eq!(image.ask(&questions), Err(Error::NoSuchNodeAsked { question: which as u32, node: 8 }));
         }
     }
 }
@@ -273,16 +281,16 @@ fn split_refuses() {
         assert!(sizes.iter().all(|size| *size == 88));
         error
     };
-    let wrong_trees = |trees| Error::WrongSize(Size::Trees { trees });
+    let wrong_trees = |trees| Error::WrongSize(WrongSize::Trees { trees });
     assert_eq!(parts(&[0b1001_0000], 6, MOST_TREES + 1, 300, 300), wrong_trees(257));
     assert_eq!(parts(&[0b1001_0000], 6, usize::MAX, 9, 9), wrong_trees(usize::MAX));
-    assert_eq!(parts(&[0b1001_0000], 9, 2, 9, 9), Error::WrongSize(Size::Bytes { bytes: 1, bits: 9 }));
-    assert_eq!(parts(&[0b1001_0000], usize::MAX, 2, 9, 9), Error::WrongSize(Size::Bits { bits: usize::MAX }));
+    assert_eq!(parts(&[0b1001_0000], 9, 2, 9, 9), Error::WrongSize(WrongSize::Bytes { bytes: 1, bits: 9 }));
+    assert_eq!(parts(&[0b1001_0000], usize::MAX, 2, 9, 9), Error::WrongSize(WrongSize::Bits { bits: usize::MAX }));
     assert_eq!(parts(&[0b1001_0001], 6, 2, 9, 9), Error::LeftoverSet);
     assert_eq!(parts(&[0b1000_0000], 6, 2, 9, 9), Error::NotString { bit: 4 });
     assert_eq!(parts(&[0b1001_0000], 5, 2, 9, 9), Error::EndsTooEarly { bits: 5 });
-    assert_eq!(parts(&[0b1001_0000], 6, 1, 9, 9), Error::OtherTrees { found: 2 });
-    assert_eq!(parts(&[], 0, 1, 9, 9), Error::OtherTrees { found: 0 });
+    assert_eq!(parts(&[0b1001_0000], 6, 1, 9, 9), Error::OtherTrees { found: 2, given: 1 });
+    assert_eq!(parts(&[], 0, 1, 9, 9), Error::OtherTrees { found: 0, given: 1 });
     assert_eq!(parts(&[0b1001_0000], 6, 2, 1, 9), Error::NoRoom);
     assert_eq!(parts(&[0b1001_0000], 6, 2, 9, 1), Error::NoRoom);
 }
@@ -298,16 +306,16 @@ fn join_refuses() {
     let wrong = Error::WrongSize;
     assert_eq!(joined(&[0; 9], 0, 0, &[]), wrong_nodes(0));
     assert_eq!(joined(&[0; 9], 0, 0, &[0; MOST_NODES + 1]), wrong_nodes(65_536));
-    assert_eq!(joined(&[0x90], 9, 1, &[0]), wrong(Size::TooFewBytes { bytes: 1, bits: 9 }));
-    assert_eq!(joined(&[0x90], usize::MAX, 1, &[0]), wrong(Size::Bits { bits: usize::MAX }));
-    assert_eq!(joined(&[0x90, 0], 3, MOST_TREES, &[0]), wrong(Size::TreesBefore { trees: 256 }));
-    assert_eq!(joined(&[0x80], 3, MOST_TREES, &[0]), wrong(Size::TreesBefore { trees: 256 }));
-    assert_eq!(joined(&[0x90, 0], 3, usize::MAX, &[0]), wrong(Size::TreesBefore { trees: usize::MAX }));
-    assert_eq!(joined(&[0x90; 20_000], MOST_BITS - 1, 1, &[0]), wrong(Size::JoinedBits { bits: 131_073 }));
+    assert_eq!(joined(&[0x90], 9, 1, &[0]), wrong(WrongSize::TooFewBytes { bytes: 1, bits: 9 }));
+    assert_eq!(joined(&[0x90], usize::MAX, 1, &[0]), wrong(WrongSize::Bits { bits: usize::MAX }));
+    assert_eq!(joined(&[0x90, 0], 3, MOST_TREES, &[0]), wrong(WrongSize::TreesBefore { trees: 256 }));
+    assert_eq!(joined(&[0x80], 3, MOST_TREES, &[0]), wrong(WrongSize::TreesBefore { trees: 256 }));
+    assert_eq!(joined(&[0x90, 0], 3, usize::MAX, &[0]), wrong(WrongSize::TreesBefore { trees: usize::MAX }));
+    assert_eq!(joined(&[0x90; 20_000], MOST_BITS - 1, 1, &[0]), wrong(WrongSize::JoinedBits { bits: 131_073 }));
     assert_eq!(joined(&[0x90, 0], 3, 1, &[0]), Error::LeftoverSet);
     assert_eq!(joined(&[0x00, 0], 3, 1, &[0]), Error::NotString { bit: 1 });
     assert_eq!(joined(&[0x80, 0], 2, 1, &[0]), Error::EndsTooEarly { bits: 2 });
-    assert_eq!(joined(&[0x80, 0], 3, 2, &[0]), Error::OtherTrees { found: 1 });
+    assert_eq!(joined(&[0x80, 0], 3, 2, &[0]), Error::OtherTrees { found: 1, given: 2 });
     assert_eq!(joined(&[0x80, 0], 3, 1, &[0, 0]), Error::NotParents { entry: 2 });
     assert_eq!(joined(&[0x80], 3, 1, &[0, 1, 1]), Error::NoRoom);
 }
@@ -338,7 +346,7 @@ fn a_refused_join_leaves_the_pack_as_it_was() {
     assert_eq!(pack.join(&[0, 1, 2, 1]), Err(Error::NotParents { entry: 4 }));
     assert_eq!(pack.join(&[]), Err(wrong_nodes(0)));
     assert_eq!(pack.join(&[0; MOST_NODES + 1]), Err(wrong_nodes(65_536)));
-    assert_eq!(pack.join(&path(65_535)), Err(Error::WrongSize(Size::JoinedBits { bits: 131_086 })));
+    assert_eq!(pack.join(&path(65_535)), Err(Error::WrongSize(WrongSize::JoinedBits { bits: 131_086 })));
     assert_eq!(pack, before);
     pack.join(&[0]).unwrap();
     assert_eq!(pack.parent_lists().unwrap(), [T.to_vec(), vec![0]]);
@@ -348,7 +356,7 @@ fn a_refused_join_leaves_the_pack_as_it_was() {
         full.join(&[0]).unwrap();
     }
     let before = full.clone();
-    assert_eq!(full.join(&[0]), Err(Error::WrongSize(Size::TreesBefore { trees: 256 })));
+    assert_eq!(full.join(&[0]), Err(Error::WrongSize(WrongSize::TreesBefore { trees: 256 })));
     assert_eq!(full, before);
 }
 
@@ -356,8 +364,8 @@ fn a_refused_join_leaves_the_pack_as_it_was() {
 #[test]
 fn strings_and_packs_that_were_received_are_refused_where_they_are_none() {
     let string = |bytes: &[u8], bits| TreeString::received(bytes.to_vec(), bits).unwrap_err();
-    assert_eq!(string(&[0xBB, 0x20], usize::MAX), Error::WrongSize(Size::Bits { bits: usize::MAX }));
-    assert_eq!(string(&[0xBB], 15), Error::WrongSize(Size::Bytes { bytes: 1, bits: 15 }));
+    assert_eq!(string(&[0xBB, 0x20], usize::MAX), Error::WrongSize(WrongSize::Bits { bits: usize::MAX }));
+    assert_eq!(string(&[0xBB], 15), Error::WrongSize(WrongSize::Bytes { bytes: 1, bits: 15 }));
     assert_eq!(string(&[0xBB, 0x21], 15), Error::LeftoverSet);
     assert_eq!(string(&[0xBB, 0x20], 16), Error::NotString { bit: 16 });
     assert_eq!(string(&[0xBB, 0x20], 14), Error::EndsTooEarly { bits: 14 });
@@ -366,8 +374,8 @@ fn strings_and_packs_that_were_received_are_refused_where_they_are_none() {
     assert_eq!(TreeString::of_parents(&[0; MOST_NODES + 1]), Err(wrong_nodes(65_536)));
 
     let pack = |bytes: &[u8], bits, trees| Pack::received(bytes.to_vec(), bits, trees).unwrap_err();
-    assert_eq!(pack(&[0b1001_0000], 6, usize::MAX), Error::WrongSize(Size::Trees { trees: usize::MAX }));
-    assert_eq!(pack(&[0b1001_0000], 6, 1), Error::OtherTrees { found: 2 });
+    assert_eq!(pack(&[0b1001_0000], 6, usize::MAX), Error::WrongSize(WrongSize::Trees { trees: usize::MAX }));
+    assert_eq!(pack(&[0b1001_0000], 6, 1), Error::OtherTrees { found: 2, given: 1 });
     assert_eq!(pack(&[0b1001_0000], 5, 2), Error::EndsTooEarly { bits: 5 });
 }
 
@@ -380,32 +388,40 @@ fn every_refusal_is_one_sentence() {
         (Error::EndsTooEarly { bits: 0 }, "after 0 bits the tree is not over"),
         (Error::EndsTooEarly { bits: 1 }, "after 1 bit the tree is not over"),
         (Error::LeftoverSet, "a bit after the last one, in the same byte, is set"),
-        (Error::WrongSums { block: 3 }, "block 3 of the image is damaged"),
-        (Error::NotImage, "no block is damaged, but no tree gives this image"),
+        (Error::WrongSums { block: 3 }, "block 3 of the image has wrong sums"),
+        (Error::NotImage, "all sums are right, but no tree gives this image"),
         (Error::NotAllowed { question: 700 }, "question 700: its kind, node or argument is not allowed"),
+        (Error::NoSuchNodeAsked { question: 700, node: 8 }, "question 700: the tree has no node 8"),
         (Error::NoSuchNode { node: 9 }, "the tree has no node 9"),
         (Error::TooDeep { node: 65 }, "node 65 is at depth 64, but a listing ends at depth 63"),
-        (Error::OtherTrees { found: 1 }, "the pack has 1 tree, which is not the number given"),
-        (Error::OtherTrees { found: 2 }, "the pack has 2 trees, which is not the number given"),
-        (Error::Unlisted { code: 11, place: 5 }, "code 11, place 5, which this crate does not know"),
+        (Error::OtherTrees { found: 1, given: 3 }, "the pack has 1 tree, not 3"),
+        (Error::OtherTrees { found: 2, given: 1 }, "the pack has 2 trees, not 1"),
+        (
+            Error::Unlisted { code: 77, place: 5 },
+            "code 77, place 5: the archive that was linked is of another version than this crate",
+        ),
     ];
     for (error, sentence) in sentences {
         assert_eq!(error.to_string(), sentence);
     }
     let sizes = [
-        (Size::Nodes { nodes: 0 }, "a parent list of 0 numbers, but a tree has 1 to 65535 nodes"),
-        (Size::Bits { bits: 131_072 }, "131072 bits, but a tree string or a pack has at most 131071"),
-        (Size::Bytes { bytes: 3, bits: 15 }, "3 bytes for 15 bits, but they take exactly 2 bytes"),
-        (Size::Bytes { bytes: 2, bits: 8 }, "2 bytes for 8 bits, but they take exactly 1 byte"),
-        (Size::TooFewBytes { bytes: 1, bits: 9 }, "1 byte for a pack of 9 bits, but it takes 2 bytes"),
-        (Size::Trees { trees: 257 }, "257 trees, but a pack has at most 256"),
-        (Size::TreesBefore { trees: 256 }, "one more tree after 256, but a pack has at most 256"),
-        (Size::JoinedBits { bits: 131_073 }, "the joined pack would have 131073 bits, but a pack has at most 131071"),
-        (Size::ImageBytes { bytes: 1 }, "an image of 1 byte, but an image is whole blocks of 512 bytes"),
-        (Size::ImageBlocks { blocks: 54 }, "an image of 54 blocks, but an image has 5 to 53"),
-        (Size::QuestionNumbers { numbers: 2 }, "2 numbers, but each question takes 3"),
-        (Size::Questions { questions: 257 }, "257 questions, but one call answers at most 256"),
-        (Size::Unlisted, "a count, a length or a number of blocks is outside its limits"),
+        (WrongSize::Nodes { nodes: 0 }, "a parent list of 0 numbers, but a tree has 1 to 65535 nodes"),
+        (WrongSize::Bits { bits: 131_072 }, "131072 bits, but a tree string or a pack has at most 131071"),
+        (WrongSize::Bytes { bytes: 3, bits: 15 }, "3 bytes for 15 bits, but they take exactly 2 bytes"),
+        (WrongSize::Bytes { bytes: 2, bits: 8 }, "2 bytes for 8 bits, but they take exactly 1 byte"),
+        (WrongSize::TooFewBytes { bytes: 1, bits: 9 }, "1 byte for a pack of 9 bits, but it takes 2 bytes"),
+        (WrongSize::Trees { trees: 257 }, "257 trees, but a pack has at most 256"),
+        (WrongSize::TreesBefore { trees: 256 }, "one more tree after 256, but a pack has at most 256"),
+        (
+            WrongSize::JoinedBits { bits: 131_073 },
+            "the joined pack would have 131073 bits, but a pack has at most 131071",
+        ),
+        (WrongSize::ImageBytes { bytes: 1 }, "an image of 1 byte, but an image is whole blocks of 512 bytes"),
+        (WrongSize::ImageTooLong { bytes: 27_137 }, "an image of 27137 bytes, but an image has at most 27136 bytes"),
+        (WrongSize::ImageBlocks { blocks: 4 }, "an image of 4 blocks, but an image has 5 to 53"),
+        (WrongSize::QuestionNumbers { numbers: 2 }, "2 numbers, but each question takes 3"),
+        (WrongSize::Questions { questions: 257 }, "257 questions, but one call answers at most 256"),
+        (WrongSize::Unlisted, "a count or a length is outside its limits, or two do not fit each other"),
     ];
     for (size, sentence) in sizes {
         assert_eq!(size.to_string(), sentence);

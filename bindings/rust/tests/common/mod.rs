@@ -12,7 +12,7 @@ pub fn image_of_t() -> Vec<u8> {
 /// The image of a parent list.
 pub fn image_of(parents: &[u32]) -> Vec<u8> {
     let mut image = vec![0; parlaqen::size::image_room(parents.len())];
-    let counts = parlaqen::image_of_parents(parents, &mut image).unwrap();
+    let counts = parlaqen::calls::image_of_parents(parents, &mut image).unwrap();
     image.truncate(counts.image_bytes());
     image
 }
