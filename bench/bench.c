@@ -3,7 +3,8 @@
  *
  *   bench ROUNDS                                 the tables
  *   bench STORE CALL SHAPE NODES TIMES           that many calls and nothing else, for a profiler or a counter of
- *                                                instructions; STORE is library, plain_o2, faster_o2 or plain_o3
+ *                                                instructions; STORE is library, plain_o2, faster_o2 or plain_o3,
+ *                                                CALL as name_of_call names it
  *
  * Other work on the machine moves a time by far more than the differences looked for. So the contestants take turns in
  * short samples, a ratio is always one of two samples of the same round, and the table has the median of these ratios,
@@ -61,6 +62,7 @@ static const struct row {
     enum beside beside;
 } rows[] = {
     {"`plq_check_image`", CHECK_IMAGE, 1.0, 0, 1, OPEN},
+    {"`plq_check_image`, wrong sample", REFUSE_IMAGE, 1.5, 0, 1, NOTHING},
     {"`plq_ask`, 256 mixed", ASK, 1.0, 0, 1, OPEN_AND_ANSWER},
     {"the 256 answers alone", ASK, 0, 1, 0, ANSWER},
     {"`plq_string_of_parents`", STRING_OF_PARENTS, 1.0, 0, 0, NOTHING},
@@ -96,7 +98,7 @@ struct tree {
     uint32_t n;
     uint32_t *parents;
     uint32_t joined_tree[PLQ_MOST_NODES / PLQ_MOST_TREES];
-    uint8_t image[PLQ_MOST_IMAGE_BYTES], string[PACK_BYTES], pack[PACK_BYTES], pack_to_join[PACK_BYTES];
+    uint8_t image[PLQ_MOST_IMAGE_BYTES], refused[PLQ_MOST_IMAGE_BYTES], string[PACK_BYTES], pack[PACK_BYTES], pack_to_join[PACK_BYTES];
     int32_t questions[LISTS][3 * PLQ_MOST_QUESTIONS];
     struct request requests[CALLS];
     uint32_t listed; /* nodes that the listing has */
@@ -158,6 +160,25 @@ static void make_questions(struct tree *tree, uint64_t seed)
     free(degree);
 }
 
+/* The image with one wrong sample in its last block. Every store must refuse it for that, with that block, before it is timed. */
+static void make_refused(struct tree *tree, uint64_t seed)
+{
+    struct request *check = &tree->requests[REFUSE_IMAGE];
+    *check = (struct request){.call = REFUSE_IMAGE, .bytes = tree->refused, .nbytes = plq_image_bytes(tree->image)};
+    memcpy(tree->refused, tree->image, check->nbytes);
+    uint32_t block = break_sample(&(struct chance){seed}, tree->refused);
+    require(block + 1 == check->nbytes / PLQ_BLOCK_BYTES, "the last block of an image has no samples");
+    for (size_t i = 0; i < CONTESTANTS; i++) {
+        const struct store *store = contestants[i].store;
+        if (store == NULL) continue;
+        plq_answer answer = make_call(store, check, &(struct lent){0});
+        if (answer.code == PLQ_WRONG_SAMPLES && answer.place == block && answer.first == 0 && answer.second == 0) continue;
+        fprintf(stderr, "bench: a sample in block %u is wrong: %s answers %u %u %u %u\n", block, store->name, answer.code, answer.place,
+                answer.first, answer.second);
+        exit(1);
+    }
+}
+
 /* 256 trees of this shape end to end; together they are nearly as long as the tree's own string. */
 static void make_pack(struct tree *tree, enum shape shape, uint64_t seed)
 {
@@ -196,6 +217,7 @@ static struct tree *new_tree(const struct kind *kind, uint64_t seed, const struc
     r[LIST].node = node_to_list(tree->parents, n);
     r[PARENTS_OF_STRING] =
         (struct request){.call = PARENTS_OF_STRING, .bytes = tree->string, .nbytes = (string.first + 7) / 8, .bits = string.first, .room = n};
+    make_refused(tree, seed);
     make_questions(tree, seed);
     make_pack(tree, kind->shape, seed);
     tree->listed = make_call(&plain_o2, &r[LIST], lent).first;
@@ -271,7 +293,7 @@ static void compare_requests(struct comparison *comparison, const struct tree *t
 static uint64_t compare_all(struct bed *const beds[KINDS])
 {
     static const struct store *const stores[] = {&library, &plain_o2, &faster_o2, &plain_o3};
-    enum { SMALL_TREES = 60, MOST_SMALL = 300, MANY_DAMAGES = 16, FEW_DAMAGES = 2 };
+    enum { SMALL_TREES = 60, MOST_SMALL = 300, MANY_DAMAGES = 16, FEW_DAMAGES = 2, RETIRED_CODE = 7 };
     uint32_t parents[MOST_SMALL];
     struct comparison comparison;
     begin_comparison(&comparison, stores, sizeof stores / sizeof *stores, SEED);
@@ -289,6 +311,8 @@ static uint64_t compare_all(struct bed *const beds[KINDS])
                 if (contestants[i].peer != NULL) compare_peer(tree, contestants[i].peer, tree->peers[i], &beds[k]->lent);
         }
     end_comparison(&comparison);
+    for (uint32_t code = 0; code <= MOST_CODE; code++)
+        require((comparison.codes[code] == 0) == (code == RETIRED_CODE), "a code was never answered, or the retired one was");
     return comparison.calls;
 }
 

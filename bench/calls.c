@@ -3,6 +3,7 @@
 const char *name_of_call(enum call call)
 {
     static const char *const names[CALLS] = {[CHECK_IMAGE] = "plq_check_image",
+                                             [REFUSE_IMAGE] = "plq_check_image:wrong_sample",
                                              [ASK] = "plq_ask",
                                              [STRING_OF_PARENTS] = "plq_string_of_parents",
                                              [PARENTS_OF_STRING] = "plq_parents_of_string",
@@ -17,7 +18,8 @@ const char *name_of_call(enum call call)
 plq_answer make_call(const struct store *store, const struct request *r, const struct lent *lent)
 {
     switch (r->call) {
-    case CHECK_IMAGE: return store->check_image(r->bytes, r->nbytes);
+    case CHECK_IMAGE:
+    case REFUSE_IMAGE: return store->check_image(r->bytes, r->nbytes);
     case ASK: return store->ask(r->bytes, r->nbytes, r->questions, r->numbers, lent->numbers, r->room);
     case STRING_OF_PARENTS: return store->string_of_parents(r->parents, r->n, lent->bytes, r->room);
     case PARENTS_OF_STRING: return store->parents_of_string(r->bytes, r->nbytes, r->bits, lent->numbers, r->room);

@@ -4,7 +4,8 @@
 
 #include "store.h"
 
-enum call { CHECK_IMAGE, ASK, STRING_OF_PARENTS, PARENTS_OF_STRING, IMAGE_OF_PARENTS, PARENTS_OF_IMAGE, SPLIT, JOIN, LIST, CALLS };
+/* REFUSE_IMAGE is CHECK_IMAGE once more, for an image that is to be refused: what is timed of it is kept apart. */
+enum call { CHECK_IMAGE, REFUSE_IMAGE, ASK, STRING_OF_PARENTS, PARENTS_OF_STRING, IMAGE_OF_PARENTS, PARENTS_OF_IMAGE, SPLIT, JOIN, LIST, CALLS };
 
 const char *name_of_call(enum call call);
 

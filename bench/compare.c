@@ -8,6 +8,8 @@ enum {
     PACK_BYTES = (PLQ_MOST_BITS + 7) / 8,
     MOST_NUMBERS = 2 * PLQ_MOST_NODES,
     STRING_BITS = 4000, /* of R1 or R0 in one block of an image */
+    WORDS = 126, /* of payload in one block; as many samples */
+    SAMPLE_STEP = 64,
     AFTER = 16, /* entries after each room, which must stay as they are */
     PATTERN = 0xA5
 };
@@ -35,7 +37,7 @@ static void free_lent(struct lent *lent)
 
 void begin_comparison(struct comparison *c, const struct store *const *stores, size_t count, uint64_t seed)
 {
-    *c = (struct comparison){stores, count, 0, {seed}, new_lent(), new_lent()};
+    *c = (struct comparison){.stores = stores, .count = count, .chance = {seed}, .expected = new_lent(), .lent = new_lent()};
 }
 
 void end_comparison(struct comparison *c)
@@ -57,7 +59,7 @@ static size_t bytes_lent(const struct request *r)
 
 static size_t numbers_lent(const struct request *r)
 {
-    return writes_bytes(r) || r->call == CHECK_IMAGE ? 0 : (r->room + AFTER) * sizeof(uint32_t);
+    return writes_bytes(r) || r->call == CHECK_IMAGE || r->call == REFUSE_IMAGE ? 0 : (r->room + AFTER) * sizeof(uint32_t);
 }
 
 static size_t second_lent(const struct request *r)
@@ -88,6 +90,7 @@ void compare_call(struct comparison *c, struct request r)
             exit(1);
         }
         c->calls++;
+        if (answer.code <= MOST_CODE) c->codes[answer.code]++;
     }
 }
 
@@ -170,6 +173,150 @@ static void compare_damaged_images(struct comparison *c, const uint8_t *image, s
         default: flip_bit(c, damaged, 8 * (PLQ_BLOCK_BYTES - 8)); break;
         }
         if (i % 4 != 0) reseal(copy, block);
+        compare_on_image(c, copy, nbytes, n);
+    }
+    free(copy);
+}
+
+/* ---- images that are refused with a code and a place that are known beforehand ---- */
+
+/* R1 or R0 of an image, or the samples of one: the first block, how many there are, and of the last how many bits of payload
+ * are in use, the count of earlier ones included. */
+struct part {
+    uint32_t first, blocks, used;
+};
+
+/* A part of `all` bits or words from block `first` on, `each` to a block, each of them `bits` long, after the first `count` bits. */
+static struct part part_of(uint32_t first, uint32_t all, uint32_t each, uint32_t bits, uint32_t count)
+{
+    return (struct part){first, (all + each - 1) / each, count + bits * ((all - 1) % each + 1)};
+}
+
+enum { R1, R0, SAMPLES1, SAMPLES0, PARTS };
+
+static void find_parts(const uint8_t *image, struct part parts[PARTS])
+{
+    uint32_t n, m;
+    memcpy(&n, image + 4, 4);
+    memcpy(&m, image + 8, 4);
+    uint32_t samples = (m + SAMPLE_STEP - 1) / SAMPLE_STEP;
+    parts[R1] = part_of(1, n, STRING_BITS, 1, 32);
+    parts[R0] = part_of(parts[R1].first + parts[R1].blocks, n + 1, STRING_BITS, 1, 32);
+    parts[SAMPLES1] = part_of(parts[R0].first + parts[R0].blocks, samples, WORDS, 32, 0);
+    parts[SAMPLES0] = part_of(parts[SAMPLES1].first + parts[SAMPLES1].blocks, samples, WORDS, 32, 0);
+}
+
+struct fault {
+    uint32_t code, place;
+};
+
+/* In the order of their codes. */
+enum { VERSION, HEADER, STRING, COUNT, UNUSED, SAMPLE, OTHER_SAMPLE, FAULTS };
+
+static void write_word(uint8_t *image, uint32_t block, uint32_t word, uint32_t value)
+{
+    memcpy(image + PLQ_BLOCK_BYTES * (size_t)block + 4 * word, &value, 4);
+}
+
+/* A word that was right and now is not, however often this is done to it. */
+static void raise_word(struct chance *chance, uint8_t *image, uint32_t block, uint32_t word)
+{
+    uint32_t value;
+    memcpy(&value, image + PLQ_BLOCK_BYTES * (size_t)block + 4 * word, 4);
+    write_word(image, block, word, value + 1 + below(chance, 3));
+}
+
+uint32_t break_sample(struct chance *chance, uint8_t *image)
+{
+    struct part parts[PARTS];
+    find_parts(image, parts);
+    uint32_t block = parts[SAMPLES0].first + parts[SAMPLES0].blocks - 1;
+    raise_word(chance, image, block, below(chance, parts[SAMPLES0].used / 32));
+    reseal(image, block);
+    return block;
+}
+
+/* Numbers that no tree has with the rest of them, whatever the rest is, or a reserved word. */
+static void break_header(struct chance *chance, uint8_t *image, uint32_t n, uint32_t blocks)
+{
+    switch (below(chance, 8)) {
+    case 0: write_word(image, 0, 1, 0); break;
+    case 1: write_word(image, 0, 1, PLQ_MOST_NODES + 1 + below(chance, 3)); break;
+    case 2: write_word(image, 0, 2, 0); break;
+    case 3: write_word(image, 0, 2, n + 1); break;
+    case 4: write_word(image, 0, 2, n == 1 ? 2 : 1); break;
+    case 5: write_word(image, 0, 3, blocks - 1); break;
+    case 6: write_word(image, 0, 3, blocks + (below(chance, 2) == 0 ? 1 : 256)); break;
+    default: write_word(image, 0, 4 + below(chance, WORDS - 4), 1 + below(chance, 2)); break;
+    }
+}
+
+/* Makes one fault in an image, seals that block again, and answers how an image with this fault alone is refused. */
+static struct fault make_fault(struct comparison *c, uint8_t *image, const struct part parts[PARTS], uint32_t n, uint32_t blocks, uint32_t kind)
+{
+    struct fault fault = {PLQ_WRONG_COUNTS, 0};
+    uint32_t block = 0, at;
+    const struct part *part = &parts[below(&c->chance, 2)];
+    switch (kind) {
+    case VERSION:
+        raise_word(&c->chance, image, 0, 0);
+        fault.code = PLQ_OTHER_VERSION;
+        break;
+    case HEADER:
+        break_header(&c->chance, image, n, blocks);
+        fault.code = PLQ_WRONG_HEADER;
+        break;
+    case STRING: /* one bit: the string then has another number of ones */
+        at = below(&c->chance, part == &parts[R1] ? n : n + 1);
+        block = part->first + at / STRING_BITS;
+        at %= STRING_BITS;
+        image[PLQ_BLOCK_BYTES * (size_t)block + 4 + at / 8] ^= (uint8_t)(0x80 >> at % 8);
+        fault = (struct fault){PLQ_WRONG_STRINGS, 1};
+        break;
+    case COUNT:
+        fault.place = block = part->first + below(&c->chance, part->blocks);
+        raise_word(&c->chance, image, block, 0);
+        break;
+    case UNUSED: /* not all parts fill their last block: where R1 does, R0 does not */
+        part = &parts[below(&c->chance, PARTS)];
+        if (part->used == 32 * WORDS) part = &parts[parts[R1].used == 32 * WORDS ? R0 : R1];
+        fault.place = block = part->first + part->blocks - 1;
+        at = part->used + below(&c->chance, below(&c->chance, 2) ? 1 : 32 * WORDS - part->used);
+        image[PLQ_BLOCK_BYTES * (size_t)block + at / 8] |= (uint8_t)(0x80 >> at % 8);
+        break;
+    default:
+        part += SAMPLES1;
+        fault.place = block = part->first + below(&c->chance, part->blocks);
+        raise_word(&c->chance, image, block, below(&c->chance, block + 1 == part->first + part->blocks ? part->used / 32 : WORDS));
+        fault.code = PLQ_WRONG_SAMPLES;
+        break;
+    }
+    reseal(image, block);
+    return fault;
+}
+
+/* One fault, or several at once: then the first code that holds, and its lowest place. */
+static void compare_faults(struct comparison *c, const uint8_t *image, size_t nbytes, uint32_t n, uint32_t damages)
+{
+    uint8_t *copy = allocate(nbytes);
+    struct part parts[PARTS];
+    find_parts(image, parts);
+    for (uint32_t i = 0; i < damages; i++) {
+        uint32_t kinds = i % 2 == 0 ? 1u << below(&c->chance, FAULTS) : 1 + below(&c->chance, (1u << FAULTS) - 1);
+        struct fault first = {MOST_CODE + 1, 0};
+        memcpy(copy, image, nbytes);
+        for (uint32_t kind = 0; kind < FAULTS; kind++) {
+            if (!(kinds >> kind & 1)) continue;
+            struct fault fault = make_fault(c, copy, parts, n, (uint32_t)(nbytes / PLQ_BLOCK_BYTES), kind);
+            if (fault.code < first.code || (fault.code == first.code && fault.place < first.place)) first = fault;
+        }
+        for (size_t s = 0; s < c->count; s++) {
+            plq_answer answer = c->stores[s]->check_image(copy, nbytes);
+            if (answer.code == first.code && answer.place == first.place && answer.first == 0 && answer.second == 0) continue;
+            fprintf(stderr, "an image to be refused with code %u, place %u: %s answers %u %u %u %u\n", first.code, first.place, c->stores[s]->name,
+                    answer.code, answer.place, answer.first, answer.second);
+            exit(1);
+        }
         compare_on_image(c, copy, nbytes, n);
     }
     free(copy);
@@ -280,6 +427,7 @@ void compare_tree(struct comparison *c, const uint32_t *parents, uint32_t n, uin
     compare_rooms(c, (struct request){.call = LIST, .bytes = image, .nbytes = nbytes, .node = 1, .room = 2 * (size_t)n});
     compare_on_image(c, image, nbytes, n);
     compare_damaged_images(c, image, nbytes, n, damages);
+    compare_faults(c, image, nbytes, n, damages);
     compare_strings(c, string, bits, 1, parents, n, damages);
     compare_parents(c, parents, n, string, bits, 1, damages);
     compare_questions(c, image, nbytes, n, damages);

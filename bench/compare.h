@@ -5,10 +5,13 @@
 #include "calls.h"
 #include "shapes.h"
 
+enum { MOST_CODE = PLQ_WRONG_SAMPLES };
+
 struct comparison {
     const struct store *const *stores; /* each is held against the first */
     size_t count;
     uint64_t calls; /* compared so far */
+    uint64_t codes[MOST_CODE + 1]; /* how many of them had each code */
     struct chance chance;
     struct lent expected, lent;
 };
@@ -22,7 +25,12 @@ void end_comparison(struct comparison *comparison);
 void compare_call(struct comparison *comparison, struct request request);
 
 /* Makes every call on this tree: as it should be, with too little room, and on damaged images, strings, packs, parent lists and
- * questions, `damages` of each. */
+ * questions, `damages` of each. Where the damage says beforehand with which code and place an image is to be refused, every
+ * store must answer these. */
 void compare_tree(struct comparison *comparison, const uint32_t *parents, uint32_t n, uint32_t damages);
+
+/* Makes one sample of an image more than it should be, by chance one of those in its last block, and the sums of that block
+ * right again. Answers the block. */
+uint32_t break_sample(struct chance *chance, uint8_t *image);
 
 #endif

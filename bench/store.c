@@ -7,7 +7,8 @@
  *                 -DSTORE_LIST_SKIPS_LEAVES: a loop that makes no call, over a copy of both strings without gaps
  *
  * What it is fast by besides: the check reads both strings once, eight bytes at a time, and keeps the counts before each
- * word of the current block for the samples; rank is the block's own count and the ones of whole words; select starts at
+ * word of the current block for the samples, and only where that finds something wrong a second pass looks for what it is
+ * and where; rank is the block's own count and the ones of whole words; select starts at
  * the nearest sample; strings are read by words and bytes while no tree can end in them; the listing keeps one cursor a
  * depth. */
 #include "store.h"
@@ -353,12 +354,101 @@ static bool some_tree_gives(const uint8_t *bytes, uint32_t blocks, struct image 
         && samples_end(im->r0.samples, &lay) && strings_right(im, &lay);
 }
 
+/* ---- what is wrong with an image that no tree gives ---- */
+
+/* Has some tree whose image is of so many blocks the rest of this header? */
+static bool header_right(const uint8_t *bytes, uint32_t blocks)
+{
+    uint32_t n = load32(bytes + 4), m = load32(bytes + 8);
+    if (n < 1 || n > PLQ_MOST_NODES || m < (n == 1 ? 1 : 2) || m > n) return false;
+    return load32(bytes + 12) == blocks && layout_of(n, m).all == blocks && all_zero(bytes + 16, bytes + PAYLOAD);
+}
+
+/* Copies the last block of a string of `bits` bits without what is after the string. Answers whether nothing is. */
+static bool copy_last(uint8_t copy[BLOCK], const struct bits *r, uint32_t bits)
+{
+    const uint8_t *last = r->blocks + BLOCK * (r->nblocks - 1);
+    uint32_t used = (bits - 1) % STRING_BITS + 1;
+    memcpy(copy, last, BLOCK);
+    memset(copy + 4 + bytes_of(used), 0, STRING_BYTES - bytes_of(used));
+    if (used % 8 != 0) copy[4 + used / 8] &= (uint8_t)(0xFF00 >> used % 8);
+    return memcmp(copy, last, BLOCK) == 0;
+}
+
+/* From sample k on, the first that is wrong, or else the first that belongs to a one of a later block. Where k itself was
+ * wrong in an earlier block it is so here too: no one of this block has its number. */
+static uint32_t first_wrong_sample(const uint8_t *string, uint32_t first, const uint32_t before[STRING_WORDS + 1], const uint8_t *samples, uint32_t k)
+{
+    uint32_t end = (before[STRING_WORDS] + SAMPLE_STEP - 1) / SAMPLE_STEP;
+    for (; k < end; k++) {
+        uint32_t at = sample(samples, k) - first;
+        if (at >= STRING_BITS) break;
+        uint64_t upto = load_bits(string + at / 64 * 8) >> (63 - at % 64);
+        if (!(upto & 1) || before[at / 64] + ones(upto) != SAMPLE_STEP * k + 1) break;
+    }
+    return k;
+}
+
+static uint32_t lower(uint32_t a, uint32_t b)
+{
+    return a < b ? a : b;
+}
+
+/* The refusal of an image whose sums are right and that no tree gives, as the pass above has found: one more pass, through all
+ * of it, for the first code that holds and the lowest block of that kind. `im` has the parts of the image if its header is
+ * right. A function of its own for the compiler too, so that a right image takes as long as without it. */
+static __attribute__((noinline)) plq_answer refusal_of(const uint8_t *bytes, uint32_t blocks, const struct image *im)
+{
+    if (load32(bytes) != VERSION) return refused(PLQ_OTHER_VERSION, 0);
+    if (!header_right(bytes, blocks)) return refused(PLQ_WRONG_HEADER, 0);
+
+    static const uint8_t nothing[BLOCK];
+    uint8_t last1[BLOCK], last0[BLOCK];
+    uint32_t before1[STRING_WORDS + 1], before0[STRING_WORDS + 1];
+    uint32_t c1 = 0, c0 = 0, next1 = 0, next0 = 0, n = im->n, m = im->m;
+    struct layout lay = layout_of(n, m);
+    uint32_t r1 = 1, r0 = r1 + lay.r1, samples1 = r0 + lay.r0, samples0 = samples1 + lay.sample_blocks; /* the first block of each */
+    uint32_t count_wrong = blocks; /* the lowest block with a wrong count or with something in its unused payload */
+    if (!samples_end(im->r0.samples, &lay)) count_wrong = blocks - 1;
+    if (!samples_end(im->r1.samples, &lay)) count_wrong = samples0 - 1;
+    if (!copy_last(last0, &im->r0, n + 1)) count_wrong = samples1 - 1;
+    if (!copy_last(last1, &im->r1, n)) count_wrong = r0 - 1;
+    if (!has_one(&im->r1, 1) || !has_one(&im->r1, n) || !has_one(&im->r0, n + 1)) return refused(PLQ_WRONG_STRINGS, r1);
+    for (uint32_t b = 0; b < lay.r0; b++) {
+        const uint8_t *block1 = b + 1 < lay.r1 ? im->r1.blocks + BLOCK * b : b + 1 == lay.r1 ? last1 : nothing;
+        const uint8_t *block0 = b + 1 < lay.r0 ? im->r0.blocks + BLOCK * b : last0;
+        const uint8_t *string1 = string_of(block1), *string0 = string_of(block0);
+        uint32_t first = STRING_BITS * b + 1;
+        if (b < lay.r1 && load32(block1) != c1) count_wrong = lower(count_wrong, r1 + b);
+        if (load32(block0) != c0) count_wrong = lower(count_wrong, r0 + b);
+        for (uint32_t w = 0; w < STRING_WORDS; w++) {
+            uint64_t x1 = raw_word(string1, w), x0 = raw_word(string0, w);
+            int32_t lead = (int32_t)(c0 - c1);
+            before1[w] = c1;
+            before0[w] = c0;
+            if (lead < 64 && lead < (int32_t)ones(x1 & ~x0)
+                && !in_step(__builtin_bswap64(x1), __builtin_bswap64(x0), lead, first + 64 * w, n))
+                return refused(PLQ_WRONG_STRINGS, r1);
+            c1 += ones(x1);
+            c0 += ones(x0);
+        }
+        before1[STRING_WORDS] = c1;
+        before0[STRING_WORDS] = c0;
+        if (c1 > m || c0 > m) return refused(PLQ_WRONG_STRINGS, r1);
+        next1 = first_wrong_sample(string1, first, before1, im->r1.samples, next1);
+        next0 = first_wrong_sample(string0, first, before0, im->r0.samples, next0);
+    }
+    if (c1 != m || c0 != m) return refused(PLQ_WRONG_STRINGS, r1);
+    if (count_wrong < blocks) return refused(PLQ_WRONG_COUNTS, count_wrong);
+    return refused(PLQ_WRONG_SAMPLES, next1 < lay.samples ? samples1 + next1 / SAMPLES : samples0 + next0 / SAMPLES);
+}
+
 static plq_answer check(const uint8_t *bytes, size_t nbytes, struct image *im)
 {
     if (nbytes % BLOCK != 0 || nbytes < LEAST_BLOCKS * BLOCK || nbytes > MOST_BLOCKS * BLOCK) return refused(PLQ_WRONG_SIZE, 0);
     uint32_t blocks = (uint32_t)(nbytes / BLOCK), wrong = wrong_block(bytes, blocks);
     if (wrong < blocks) return refused(PLQ_WRONG_SUMS, wrong);
-    if (!some_tree_gives(bytes, blocks, im)) return refused(PLQ_NOT_IMAGE, 0);
+    if (!some_tree_gives(bytes, blocks, im)) return refusal_of(bytes, blocks, im);
     return done(im->n, im->m);
 }
 

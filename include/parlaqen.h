@@ -20,9 +20,9 @@
 #include <stdint.h>
 
 #define PLQ_VERSION_MAJOR 0
-#define PLQ_VERSION_MINOR 2
+#define PLQ_VERSION_MINOR 3
 #define PLQ_VERSION_PATCH 0
-#define PLQ_VERSION_STRING "0.2.0"
+#define PLQ_VERSION_STRING "0.3.0"
 
 /* The library's sizes have 64 bits on every machine. A call with shorter ones would hand it lists of other lengths. */
 #if SIZE_MAX != 0xFFFFFFFFFFFFFFFFu
@@ -42,21 +42,31 @@
 extern "C" {
 #endif
 
-/* How a call ended. Where several refusals hold, the one further up in this list is answered. */
+/* How a call ended. Where several refusals hold, the one further up in this list is answered. docs/FORMAT.md has the
+ * parts of an image, and for each of them the code that names its damage.
+ *
+ * 7 is retired: no call answers it, and its number is never used again. It was the answer to every image whose sums are
+ * right and that no tree gives; 11 to 15 say what is wrong with such an image. */
 enum plq_code {
-    PLQ_DONE = 0,         /* not refused; place 0 */
-    PLQ_WRONG_SIZE = 2,   /* a count or a length is outside its limits, or two do not fit each other; place 0 */
-    PLQ_WRONG_SUMS = 6,   /* a block of the image has wrong sums; place: the lowest such block, from 0 */
-    PLQ_NOT_IMAGE = 7,    /* all sums are right, but no tree gives this image; place 0 */
-    PLQ_LEFTOVER_SET = 5, /* a bit after the last one, in the same byte, is set; place 0 */
-    PLQ_NOT_STRING = 4,   /* no tree string (pack: no strings end to end); place: the first bit, from 1, up to which the
-                             bits begin none, or one more than there are bits */
-    PLQ_OTHER_TREES = 10, /* the pack has another number of trees; place: the number found */
-    PLQ_NOT_PARENTS = 3,  /* no parent list; place: the lowest offending entry, from 1 */
-    PLQ_NOT_ALLOWED = 8,  /* a kind, node or argument is not allowed; place: the lowest such question, from 1
-                             (listing: 1) */
-    PLQ_TOO_DEEP = 9,     /* the listing would go below depth 63; place: its first node at depth 64 */
-    PLQ_NO_ROOM = 1       /* an output has too little room; place 0 */
+    PLQ_DONE = 0,           /* not refused; place 0 */
+    PLQ_WRONG_SIZE = 2,     /* a count or a length is outside its limits, or two do not fit each other; place 0 */
+    PLQ_WRONG_SUMS = 6,     /* a block of the image has wrong sums; place: the lowest such block, from 0 */
+    PLQ_OTHER_VERSION = 11, /* the version in the header is not 1, as with an older or a newer writer; place 0 */
+    PLQ_WRONG_HEADER = 12,  /* no tree with an image of this length has these header numbers, or a reserved word is not
+                               zero; place 0 */
+    PLQ_WRONG_STRINGS = 13, /* no tree with the header's n and m gives these strings; place 1, the first block of R1 */
+    PLQ_WRONG_COUNTS = 14,  /* a block has a wrong count of earlier ones, or unused payload that is not zero; place: the
+                               lowest such block */
+    PLQ_WRONG_SAMPLES = 15, /* a block has wrong samples; place: the lowest such block */
+    PLQ_LEFTOVER_SET = 5,   /* a bit after the last one, in the same byte, is set; place 0 */
+    PLQ_NOT_STRING = 4,     /* no tree string (pack: no strings end to end); place: the first bit, from 1, up to which
+                               the bits begin none, or one more than there are bits */
+    PLQ_OTHER_TREES = 10,   /* the pack has another number of trees; place: the number found */
+    PLQ_NOT_PARENTS = 3,    /* no parent list; place: the lowest offending entry, from 1 */
+    PLQ_NOT_ALLOWED = 8,    /* a kind, node or argument is not allowed; place: the lowest such question, from 1
+                               (listing: 1) */
+    PLQ_TOO_DEEP = 9,       /* the listing would go below depth 63; place: its first node at depth 64 */
+    PLQ_NO_ROOM = 1         /* an output has too little room; place 0 */
 };
 
 /* The first number of a question. Of the answers, 0 for a node means that there is none. */
@@ -141,17 +151,20 @@ PLQ_MUST_USE plq_answer plq_parents_of_string(const uint8_t *bytes, size_t nbyte
 PLQ_MUST_USE plq_answer plq_image_of_parents(const uint32_t *parents, size_t n, uint8_t *image, size_t room);
 
 /* A sealed image, after the whole check, back to its parents.
- * Refusals: PLQ_WRONG_SIZE, PLQ_WRONG_SUMS, PLQ_NOT_IMAGE, PLQ_NO_ROOM. */
+ * Refusals: PLQ_WRONG_SIZE, PLQ_WRONG_SUMS, PLQ_OTHER_VERSION, PLQ_WRONG_HEADER, PLQ_WRONG_STRINGS,
+ * PLQ_WRONG_COUNTS, PLQ_WRONG_SAMPLES, PLQ_NO_ROOM. */
 PLQ_MUST_USE plq_answer plq_parents_of_image(const uint8_t *image, size_t nbytes, uint32_t *parents, size_t room);
 
 /* The whole check: done exactly if some tree of 1 to 65,535 nodes gives these bytes.
- * Refusals: PLQ_WRONG_SIZE, PLQ_WRONG_SUMS, PLQ_NOT_IMAGE. */
+ * Refusals: PLQ_WRONG_SIZE, PLQ_WRONG_SUMS, PLQ_OTHER_VERSION, PLQ_WRONG_HEADER, PLQ_WRONG_STRINGS,
+ * PLQ_WRONG_COUNTS, PLQ_WRONG_SAMPLES. */
 PLQ_MUST_USE plq_answer plq_check_image(const uint8_t *image, size_t nbytes);
 
 /* After the whole check, one answer to each of 0 to 256 questions. A question is three numbers: kind, node, argument.
  * `numbers` counts those and not questions; plq_ask_questions, below, counts questions.
  * PLQ_CHILD_NUMBER and PLQ_SIBLING_AT take any argument, the other kinds take 0.
- * Refusals: PLQ_WRONG_SIZE, PLQ_WRONG_SUMS, PLQ_NOT_IMAGE, PLQ_NOT_ALLOWED, PLQ_NO_ROOM. */
+ * Refusals: PLQ_WRONG_SIZE, PLQ_WRONG_SUMS, PLQ_OTHER_VERSION, PLQ_WRONG_HEADER, PLQ_WRONG_STRINGS,
+ * PLQ_WRONG_COUNTS, PLQ_WRONG_SAMPLES, PLQ_NOT_ALLOWED, PLQ_NO_ROOM. */
 PLQ_MUST_USE plq_answer plq_ask(const uint8_t *image, size_t nbytes, const int32_t *questions, size_t numbers,
                                 uint32_t *answers, size_t room);
 
@@ -170,7 +183,8 @@ PLQ_MUST_USE plq_answer plq_join(uint8_t *pack, size_t room, size_t bits, size_t
 
 /* After the whole check, node and depth, two numbers each, for `node` and everything below it: parents first, children
  * in order, depth 0 at `node`. PLQ_LISTING_NUMBERS(n) are enough for any node of a tree of n.
- * Refusals: PLQ_WRONG_SIZE, PLQ_WRONG_SUMS, PLQ_NOT_IMAGE, PLQ_NOT_ALLOWED, PLQ_TOO_DEEP, PLQ_NO_ROOM. */
+ * Refusals: PLQ_WRONG_SIZE, PLQ_WRONG_SUMS, PLQ_OTHER_VERSION, PLQ_WRONG_HEADER, PLQ_WRONG_STRINGS,
+ * PLQ_WRONG_COUNTS, PLQ_WRONG_SAMPLES, PLQ_NOT_ALLOWED, PLQ_TOO_DEEP, PLQ_NO_ROOM. */
 PLQ_MUST_USE plq_answer plq_list(const uint8_t *image, size_t nbytes, uint32_t node, uint32_t *pairs, size_t room);
 
 /* The rest is no part of the archive: it is compiled with the caller. */
@@ -212,7 +226,14 @@ PLQ_MUST_USE static inline const char *plq_code_text(uint32_t code)
     case PLQ_DONE: return "done";
     case PLQ_WRONG_SIZE: return "a count or a length is outside its limits, or two do not fit each other";
     case PLQ_WRONG_SUMS: return "a block of the image has wrong sums; the place is the lowest such block, from 0";
-    case PLQ_NOT_IMAGE: return "all sums are right, but no tree gives this image";
+    case PLQ_OTHER_VERSION: return "the version in the header is not 1, as with an older or a newer writer";
+    case PLQ_WRONG_HEADER: return "no tree with an image of this length has these header numbers, or a reserved word "
+                                  "is not zero";
+    case PLQ_WRONG_STRINGS: return "no tree with the header's n and m gives these strings; the place is the first "
+                                   "block of R1";
+    case PLQ_WRONG_COUNTS: return "a block of the image has a wrong count of earlier ones, or unused payload that is "
+                                  "not zero; the place is the lowest such block, from 0";
+    case PLQ_WRONG_SAMPLES: return "a block of the image has wrong samples; the place is the lowest such block, from 0";
     case PLQ_LEFTOVER_SET: return "a bit after the last one, in the same byte, is set";
     case PLQ_NOT_STRING: return "the bits are no tree string, or in a pack no strings end to end; the place is the "
                                 "first bit, from 1, up to which they begin none, or one more than there are bits";

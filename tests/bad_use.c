@@ -65,8 +65,13 @@ enum call {
     CALLS
 };
 
-enum { MOST_LISTS = 3, MOST_REFUSALS = 6, CODES = 11 }; /* codes are 0 to 10, without a gap */
+enum { MOST_LISTS = 3, MOST_REFUSALS = 10, CODES = 16 }; /* codes are 0 to 15, and 7, which is retired, is none */
 enum use { READ, WRITTEN, CHANGED }; /* the pack of a join is read, and then changed in its place */
+
+/* What the header lists first for each call that reads an image. */
+#define OF_IMAGE                                                                                                       \
+    PLQ_WRONG_SIZE, PLQ_WRONG_SUMS, PLQ_OTHER_VERSION, PLQ_WRONG_HEADER, PLQ_WRONG_STRINGS, PLQ_WRONG_COUNTS,          \
+        PLQ_WRONG_SAMPLES
 
 /* What the header says of each call: its lists with the bytes of an element, and its refusals, ended by a 0. */
 static const struct {
@@ -82,19 +87,16 @@ static const struct {
     {"plq_parents_of_string", 2, {{1, READ}, {4, WRITTEN}},
      {PLQ_WRONG_SIZE, PLQ_LEFTOVER_SET, PLQ_NOT_STRING, PLQ_NO_ROOM}},
     {"plq_image_of_parents", 2, {{4, READ}, {1, WRITTEN}}, {PLQ_WRONG_SIZE, PLQ_NOT_PARENTS, PLQ_NO_ROOM}},
-    {"plq_parents_of_image", 2, {{1, READ}, {4, WRITTEN}},
-     {PLQ_WRONG_SIZE, PLQ_WRONG_SUMS, PLQ_NOT_IMAGE, PLQ_NO_ROOM}},
-    {"plq_check_image", 1, {{1, READ}}, {PLQ_WRONG_SIZE, PLQ_WRONG_SUMS, PLQ_NOT_IMAGE}},
-    {"plq_ask", 3, {{1, READ}, {4, READ}, {4, WRITTEN}},
-     {PLQ_WRONG_SIZE, PLQ_WRONG_SUMS, PLQ_NOT_IMAGE, PLQ_NOT_ALLOWED, PLQ_NO_ROOM}},
+    {"plq_parents_of_image", 2, {{1, READ}, {4, WRITTEN}}, {OF_IMAGE, PLQ_NO_ROOM}},
+    {"plq_check_image", 1, {{1, READ}}, {OF_IMAGE}},
+    {"plq_ask", 3, {{1, READ}, {4, READ}, {4, WRITTEN}}, {OF_IMAGE, PLQ_NOT_ALLOWED, PLQ_NO_ROOM}},
     {"plq_ask_questions", 3, {{1, READ}, {sizeof(plq_question), READ}, {4, WRITTEN}},
-     {PLQ_WRONG_SIZE, PLQ_WRONG_SUMS, PLQ_NOT_IMAGE, PLQ_NOT_ALLOWED, PLQ_NO_ROOM}},
+     {OF_IMAGE, PLQ_NOT_ALLOWED, PLQ_NO_ROOM}},
     {"plq_split", 3, {{1, READ}, {4, WRITTEN}, {4, WRITTEN}},
      {PLQ_WRONG_SIZE, PLQ_LEFTOVER_SET, PLQ_NOT_STRING, PLQ_OTHER_TREES, PLQ_NO_ROOM}},
     {"plq_join", 2, {{1, CHANGED}, {4, READ}},
      {PLQ_WRONG_SIZE, PLQ_LEFTOVER_SET, PLQ_NOT_STRING, PLQ_OTHER_TREES, PLQ_NOT_PARENTS, PLQ_NO_ROOM}},
-    {"plq_list", 2, {{1, READ}, {4, WRITTEN}},
-     {PLQ_WRONG_SIZE, PLQ_WRONG_SUMS, PLQ_NOT_IMAGE, PLQ_NOT_ALLOWED, PLQ_TOO_DEEP, PLQ_NO_ROOM}},
+    {"plq_list", 2, {{1, READ}, {4, WRITTEN}}, {OF_IMAGE, PLQ_NOT_ALLOWED, PLQ_TOO_DEEP, PLQ_NO_ROOM}},
 };
 
 static int reads_image(enum call call)
@@ -275,9 +277,12 @@ static int kept(const attempt *a, plq_answer answer)
 /* Can this place go with this code? */
 static int place_fits(const attempt *a, plq_answer answer)
 {
-    size_t place = answer.place;
+    size_t place = answer.place, blocks = a->list[0].count / PLQ_BLOCK_BYTES;
     switch (answer.code) {
-    case PLQ_WRONG_SUMS: return place < a->list[0].count / PLQ_BLOCK_BYTES;
+    case PLQ_WRONG_SUMS: return place < blocks;
+    case PLQ_WRONG_STRINGS: return place == 1;
+    case PLQ_WRONG_COUNTS: return place >= 1 && place < blocks;
+    case PLQ_WRONG_SAMPLES: return place >= 3 && place < blocks; /* before them come the header, R1 and R0 */
     case PLQ_NOT_STRING: return place >= 1 && place <= a->bits + 1;
     case PLQ_OTHER_TREES: return place != a->trees;
     case PLQ_NOT_PARENTS: return place >= 1 && place <= a->list[list_of_parents(a->call)].count;
@@ -424,11 +429,22 @@ static void put_string(uint8_t *blocks, const uint8_t *string, uint32_t bits, ui
     }
 }
 
+/* The first block of each part of an image, and how many blocks there are. */
+struct layout {
+    size_t r1, r0, r1_samples, r0_samples, blocks;
+};
+
+static struct layout layout_of(uint32_t n, uint32_t m)
+{
+    size_t r1 = 1, r0 = r1 + (n + 3999) / 4000, r1_samples = r0 + (n + 1 + 3999) / 4000;
+    size_t r0_samples = r1_samples + ((m + 63) / 64 + 125) / 126;
+    return (struct layout){r1, r0, r1_samples, r0_samples, 2 * r0_samples - r1_samples};
+}
+
 /* The steps of FORMAT.md for a writer, over PLQ_IMAGE_BYTES(n, m) zeros. */
 static void put_image(uint8_t *image, const uint32_t *parents, uint32_t n, uint32_t m)
 {
-    size_t r1_first = 1, r0_first = r1_first + (n + 3999) / 4000, r1_samples = r0_first + (n + 1 + 3999) / 4000;
-    size_t r0_samples = r1_samples + ((m + 63) / 64 + 125) / 126, blocks = 2 * r0_samples - r1_samples;
+    const struct layout first = layout_of(n, m);
     uint8_t *r1 = must(calloc(n, 1)), *r0 = must(calloc(n + 1, 1));
     for (uint32_t i = 0; i < n; i++) r1[i] = i + 1 == n || parents[i + 1] != parents[i];
     for (uint32_t i = 1; i < n; i++) r0[parents[i] - 1] = 1;
@@ -436,10 +452,10 @@ static void put_image(uint8_t *image, const uint32_t *parents, uint32_t n, uint3
     put_word(image, 1);
     put_word(image + 4, n);
     put_word(image + 8, m);
-    put_word(image + 12, (uint32_t)blocks);
-    put_string(image + PLQ_BLOCK_BYTES * r1_first, r1, n, image + PLQ_BLOCK_BYTES * r1_samples);
-    put_string(image + PLQ_BLOCK_BYTES * r0_first, r0, n + 1, image + PLQ_BLOCK_BYTES * r0_samples);
-    put_sums(image, blocks);
+    put_word(image + 12, (uint32_t)first.blocks);
+    put_string(image + PLQ_BLOCK_BYTES * first.r1, r1, n, image + PLQ_BLOCK_BYTES * first.r1_samples);
+    put_string(image + PLQ_BLOCK_BYTES * first.r0, r0, n + 1, image + PLQ_BLOCK_BYTES * first.r0_samples);
+    put_sums(image, first.blocks);
     free(r1);
     free(r0);
 }
@@ -1030,8 +1046,10 @@ static void refused_images_of_the_page(void)
     static const struct {
         size_t at;
         uint8_t byte;
-    } not_images[] = {{0x000, 0x00}, {0x004, 0x08}, {0x008, 0x03}, {0x00C, 0x06}, {0x010, 0x01}, {0x200, 0x01},
-                      {0x204, 0x97}, {0x204, 0x69}, {0x404, 0x8B}, {0x600, 0x00}, {0x604, 0x01}};
+        uint32_t code, place;
+    } mended[] = {{0x000, 0x00, 11, 0}, {0x004, 0x08, 13, 1}, {0x008, 0x01, 12, 0}, {0x008, 0x03, 13, 1},
+                  {0x00C, 0x06, 12, 0}, {0x010, 0x01, 12, 0}, {0x200, 0x01, 14, 1}, {0x204, 0x97, 14, 1},
+                  {0x204, 0x69, 13, 1}, {0x404, 0x8B, 13, 1}, {0x600, 0x00, 15, 3}, {0x604, 0x01, 14, 3}};
     static const struct {
         size_t at;
         uint8_t byte;
@@ -1039,11 +1057,11 @@ static void refused_images_of_the_page(void)
     } damaged[] = {{0x000, 0x00, 0}, {0x1F8, 0x10, 0}, {0x300, 0x80, 1}, {0x9FC, 0x77, 4}};
     const uint8_t *image = t.use[CHECK_IMAGE].before[0].at;
     uint8_t copy[5120], *zeros = must(calloc(27648, 1));
-    for (size_t i = 0; i < COUNT_OF(not_images); i++) {
+    for (size_t i = 0; i < COUNT_OF(mended); i++) {
         memcpy(copy, image, 2560);
-        copy[not_images[i].at] = not_images[i].byte;
+        copy[mended[i].at] = mended[i].byte;
         put_sums(copy, 5);
-        expect_no_image(copy, 2560, PLQ_NOT_IMAGE, 0, "a changed byte of the page, sums made right");
+        expect_no_image(copy, 2560, mended[i].code, mended[i].place, "a changed byte of the page, sums made right");
     }
     for (size_t i = 0; i < COUNT_OF(damaged); i++) {
         memcpy(copy, image, 2560);
@@ -1064,25 +1082,170 @@ static void refused_images_of_the_page(void)
     expect_no_image(copy, 5120, PLQ_WRONG_SUMS, 5, "T's image twice");
     memset(copy + 2560, 0, 512);
     put_sums(copy, 6);
-    expect_no_image(copy, 3072, PLQ_NOT_IMAGE, 0, "T's image and a block of zeros with right sums");
+    expect_no_image(copy, 3072, PLQ_WRONG_HEADER, 0, "T's image and a block of zeros with right sums");
+    memcpy(copy, image, 2560);
+    memset(copy, 0, 512);
+    expect_no_image(copy, 2560, PLQ_OTHER_VERSION, 0, "T's image with zeros in the place of its header");
     free(zeros);
 }
 
-/* Faults that are seen last: in the last block, and in the last sample with sums made right. */
+/* A word of an image with another number in it, and how the image is refused once its sums are right again. */
+struct fault {
+    size_t at;
+    uint32_t number, code, place;
+};
+
+enum { MOST_FAULTS = 200 };
+struct faults {
+    size_t count;
+    struct fault fault[MOST_FAULTS];
+};
+
+/* The place is the block that has the fault, but for the strings, which have one place for all of theirs. */
+static void add_fault(struct faults *faults, uint32_t code, size_t block, size_t word, uint32_t number)
+{
+    if (faults->count == MOST_FAULTS) must(NULL);
+    uint32_t place = code == PLQ_WRONG_STRINGS ? 1 : (uint32_t)block;
+    faults->fault[faults->count++] = (struct fault){PLQ_BLOCK_BYTES * block + 4 * word, number, code, place};
+}
+
+static void add_to_header(struct faults *faults, const struct tree *tree)
+{
+    const uint32_t n = tree->n, m = tree->m, blocks = (uint32_t)layout_of(n, m).blocks;
+    const struct {
+        size_t word;
+        uint32_t number, code;
+    } header[] = {
+        {0, 0, PLQ_OTHER_VERSION},
+        {0, 2, PLQ_OTHER_VERSION},
+        {0, 1 + (1u << 8), PLQ_OTHER_VERSION},
+        {0, 1 + (1u << 31), PLQ_OTHER_VERSION},
+        {1, 0, PLQ_WRONG_HEADER},
+        {1, PLQ_MOST_NODES + 1, PLQ_WRONG_HEADER},
+        {1, n + 4000, PLQ_WRONG_HEADER}, /* two blocks more */
+        {1, n + (1u << 16), PLQ_WRONG_HEADER},
+        {1, UINT32_MAX, PLQ_WRONG_HEADER},
+        {2, 0, PLQ_WRONG_HEADER},
+        {2, 1, PLQ_WRONG_HEADER}, /* only a tree of one node has no node with children */
+        {2, n + 2, PLQ_WRONG_HEADER},
+        {2, m + (1u << 16), PLQ_WRONG_HEADER},
+        {2, UINT32_MAX, PLQ_WRONG_HEADER},
+        {3, 0, PLQ_WRONG_HEADER},
+        {3, blocks - 1, PLQ_WRONG_HEADER},
+        {3, blocks + 1, PLQ_WRONG_HEADER},
+        {3, blocks + (1u << 8), PLQ_WRONG_HEADER},
+        {4, 1, PLQ_WRONG_HEADER},
+        {125, 1u << 31, PLQ_WRONG_HEADER},
+        /* other trees with an image of this length have these, but for the path, whose n and m are the greatest */
+        {1, n + 1, n < PLQ_MOST_NODES ? PLQ_WRONG_STRINGS : PLQ_WRONG_HEADER},
+        {2, m + 1, m < n ? PLQ_WRONG_STRINGS : PLQ_WRONG_HEADER},
+    };
+    for (size_t i = 0; i < COUNT_OF(header); i++)
+        add_fault(faults, header[i].code, 0, header[i].word, header[i].number);
+}
+
+/* Changes one bit, from 0, of the string whose first block is `first`, or one of those after its end. */
+static void add_bit(struct faults *faults, uint32_t code, const uint8_t *image, size_t first, uint32_t bit)
+{
+    size_t block = first + bit / 4000, byte = 4 + bit % 4000 / 8;
+    uint32_t value = 0x80u >> bit % 8 << byte % 4 * 8;
+    add_fault(faults, code, block, byte / 4, word_at(image + PLQ_BLOCK_BYTES * block + byte / 4 * 4) ^ value);
+}
+
+static void add_to_string(struct faults *faults, const uint8_t *image, size_t first, size_t end, uint32_t bits)
+{
+    uint32_t room = 4000 * (uint32_t)(end - first);
+    add_bit(faults, PLQ_WRONG_STRINGS, image, first, 0);
+    add_bit(faults, PLQ_WRONG_STRINGS, image, first, bits / 2);
+    add_bit(faults, PLQ_WRONG_STRINGS, image, first, bits - 1);
+    for (size_t block = first; block < end; block++)
+        add_fault(faults, PLQ_WRONG_COUNTS, block, 0,
+                  word_at(image + PLQ_BLOCK_BYTES * block) + (block % 2 == 0 ? 1 : 1u << 16));
+    if (bits < room) add_bit(faults, PLQ_WRONG_COUNTS, image, first, bits);
+    if (bits < room) add_bit(faults, PLQ_WRONG_COUNTS, image, first, room - 1);
+}
+
+static void add_to_samples(struct faults *faults, const uint8_t *image, size_t first, size_t end, uint32_t samples)
+{
+    uint32_t room = 126 * (uint32_t)(end - first);
+    for (size_t block = first; block < end; block++) {
+        size_t last = block + 1 < end ? 125 : (samples - 1) % 126;
+        const uint8_t *at = image + PLQ_BLOCK_BYTES * block;
+        add_fault(faults, PLQ_WRONG_SAMPLES, block, 0, word_at(at) + 1);
+        if (last > 0) add_fault(faults, PLQ_WRONG_SAMPLES, block, last, word_at(at + 4 * last) + (1u << 16));
+    }
+    if (samples < room) add_fault(faults, PLQ_WRONG_COUNTS, end - 1, samples % 126, 1);
+    if (samples < room) add_fault(faults, PLQ_WRONG_COUNTS, end - 1, 125, 1u << 31);
+}
+
+/* Every kind of fault in every part. None of them makes right what another, in another word, makes wrong. */
+static void make_faults(struct faults *faults, const struct tree *tree)
+{
+    const uint8_t *image = tree->use[CHECK_IMAGE].before[0].at;
+    const struct layout first = layout_of(tree->n, tree->m);
+    uint32_t samples = (tree->m + 63) / 64;
+    faults->count = 0;
+    add_to_header(faults, tree);
+    add_to_string(faults, image, first.r1, first.r0, tree->n);
+    add_to_string(faults, image, first.r0, first.r1_samples, tree->n + 1);
+    add_to_samples(faults, image, first.r1_samples, first.r0_samples, samples);
+    add_to_samples(faults, image, first.r0_samples, first.blocks, samples);
+}
+
+static void put_faults(uint8_t *copy, content image, const struct fault *one, const struct fault *other)
+{
+    memcpy(copy, image.at, image.bytes);
+    put_word(copy + one->at, one->number);
+    put_word(copy + other->at, other->number);
+    put_sums(copy, image.bytes / PLQ_BLOCK_BYTES);
+}
+
+/* A damaged last block, and every fault that right sums do not show. */
 static void refused_images(void)
 {
+    static struct faults faults;
     for (size_t i = 0; i < COUNT_OF(trees); i++) {
         content image = trees[i]->use[CHECK_IMAGE].before[0];
-        size_t blocks = image.bytes / PLQ_BLOCK_BYTES, samples = (trees[i]->m + 63) / 64;
+        size_t blocks = image.bytes / PLQ_BLOCK_BYTES, step = few && trees[i] != &t ? 9 : 1;
         uint8_t *copy = must(malloc(image.bytes));
         memcpy(copy, image.at, image.bytes);
         copy[image.bytes - 9] ^= 0x40;
         expect_no_image(copy, image.bytes, PLQ_WRONG_SUMS, (uint32_t)blocks - 1, "a damaged last block");
-        memcpy(copy, image.at, image.bytes);
-        copy[image.bytes - PLQ_BLOCK_BYTES + 4 * ((samples - 1) % 126)] ^= 1;
-        put_sums(copy, blocks);
-        expect_no_image(copy, image.bytes, PLQ_NOT_IMAGE, 0, "a wrong last sample with right sums");
+        make_faults(&faults, trees[i]);
+        for (size_t k = 0; k < faults.count; k += step) {
+            const struct fault *fault = &faults.fault[k];
+            char what[120];
+            snprintf(what, sizeof what, "%s with word %zu of block %zu changed to %u, sums made right", trees[i]->name,
+                     fault->at % PLQ_BLOCK_BYTES / 4, fault->at / PLQ_BLOCK_BYTES, (unsigned)fault->number);
+            put_faults(copy, image, fault, fault);
+            expect_no_image(copy, image.bytes, fault->code, fault->place, what);
+        }
         free(copy);
+    }
+}
+
+/* Of two faults the one with the lower code is answered, and of two with one code the one in the lower block. */
+static void every_two_faults(void)
+{
+    static struct faults faults;
+    group = "two faults";
+    for (size_t i = 0; i < COUNT_OF(trees); i++) {
+        if (few && trees[i] != &t) continue;
+        attempt a = right_attempt(trees[i], CHECK_IMAGE, 0);
+        content image = trees[i]->use[CHECK_IMAGE].before[0];
+        make_faults(&faults, trees[i]);
+        for (size_t k = 0; k < faults.count; k++)
+            for (size_t l = k + 1; l < faults.count; l++) {
+                const struct fault *one = &faults.fault[k], *other = &faults.fault[l];
+                if (one->at == other->at) continue;
+                int one_first = one->code != other->code ? one->code < other->code : one->place < other->place;
+                char what[120];
+                snprintf(what, sizeof what, "%s with bytes %zu and %zu changed, sums made right", trees[i]->name,
+                         one->at, other->at);
+                put_faults(a.list[0].at, image, one, other);
+                expect_refused(&a, (one_first ? one : other)->code, (one_first ? one : other)->place, what);
+            }
+        end(&a);
     }
 }
 
@@ -1290,6 +1453,7 @@ int main(int words, char **word)
         random_uses();
     }
     placement = ON_HEAP;
+    every_two_faults();
     every_byte_damaged();
     every_alignment();
     for (size_t i = 0; i < COUNT_OF(trees); i++) drop_tree(trees[i]);

@@ -41,13 +41,22 @@ for block in 0 1 2 3 4; do
     cp diary.plq "damaged-$block.plq"
     printf '\377' | dd of="damaged-$block.plq" bs=1 seek=$((512 * block + 300)) conv=notrunc status=none
 done
-# each block whole and at its right place, but one of them from another image
-cp diary.plq mixed.plq
-echo 0 1 1 1 2 2 4 | seal | dd of=mixed.plq bs=512 skip=1 seek=1 count=1 iflag=fullblock conv=notrunc status=none
 seq 0 64 | seal >path-of-65.plq
+seq 0 65 | seal >path-of-66.plq
 awk 'BEGIN { print 0; for (i = 2; i <= 65535; i++) print 1 }' >65535-nodes.txt
 awk 'BEGIN { print 0; for (i = 2; i <= 65536; i++) print 1 }' >65536-nodes.txt
 awk 'BEGIN { print 0; for (i = 2; i <= 999999; i++) print 1 }' >999999-nodes.txt
+# the sums of every block are right, but the header is lost, the end is lost, or one block is from another image
+mix() { # IMAGE BLOCK OTHER MIXED: MIXED is IMAGE, with this block as it is in OTHER
+    cp "$1" "$4"
+    dd if="$3" of="$4" bs=512 skip="$2" seek="$2" count=1 conv=notrunc status=none
+}
+mix diary.plq 0 zeros.plq lost-header.plq
+seal 65535-nodes.txt 65535-nodes.plq
+head -c 5120 65535-nodes.plq >ten-blocks.plq
+mix diary.plq 1 path-of-65.plq mixed-strings.plq
+mix diary.plq 3 path-of-65.plq mixed-counts.plq # with two samples, and the diary has one
+mix path-of-65.plq 4 path-of-66.plq mixed-samples.plq
 
 while read -r command; do
     echo "\$ $command"

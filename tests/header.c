@@ -137,11 +137,12 @@ static void try_questions(void)
 
 static int same_text(uint32_t code, uint32_t other) { return strcmp(plq_code_text(code), plq_code_text(other)) == 0; }
 
-/* Each code has a text of its own, and all numbers that are no code have one. */
+/* Each code has a text of its own, and all numbers that are no code have one; 7 is none, since it is retired. */
 static void try_texts(void)
 {
-    static const uint32_t unknown[] = {11, 12, 99, 255, 256, 1u << 16, 1u << 31, UINT32_MAX};
-    for (uint32_t code = PLQ_DONE; code <= PLQ_OTHER_TREES; code++) {
+    static const uint32_t unknown[] = {7, 16, 17, 99, 255, 256, 1u << 16, 1u << 31, UINT32_MAX};
+    for (uint32_t code = PLQ_DONE; code <= PLQ_WRONG_SAMPLES; code++) {
+        if (code == 7) continue;
         expect("a text", code, 0, plq_code_text(code)[0] != '\0' && !same_text(code, UINT32_MAX));
         for (uint32_t other = PLQ_DONE; other < code; other++)
             expect("two texts", code, other, !same_text(code, other));

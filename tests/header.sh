@@ -62,8 +62,9 @@ fault_is_seen "the number of blocks with its high byte first" 's/blocks + image\
 fault_is_seen "numbers in the place of questions" 's/numbers, 3 \* counted, answers/numbers, counted, answers/'
 fault_is_seen "two codes with one text" 's/case PLQ_NO_ROOM: return "[^"]*"/case PLQ_NO_ROOM: return "done"/'
 fault_is_seen "a code without a text" '/case PLQ_LEFTOVER_SET: return/d'
+fault_is_seen "a text for the number that is retired" '/case PLQ_NO_ROOM: return/s/case/case 7: return "7"; &/'
 fault_is_seen "a version string of another version" 's/PLQ_VERSION_STRING "[0-9]*/&9/'
-passed "header: 17 faults in its macros and functions are seen"
+passed "header: 18 faults in its macros and functions are seen"
 
 # An answer that nobody looks at.
 does_not_compile() { # MESSAGE LINE: with LINE in a function a program does not compile, and the compiler says MESSAGE

@@ -36,8 +36,17 @@ passed "outline: an image of 53 blocks, and nothing longer"
     outline_says "53 blocks that come in pieces" "n 65535 m 65535 blocks 53"
 (cat 53-blocks.plq && sleep 0.2 && printf '\0') | outline_says "53 blocks and, later, a byte" "refused 2 0"
 head -c 27135 53-blocks.plq | outline_says "53 blocks less a byte" "refused 2 0"
-head -c 26624 53-blocks.plq | outline_says "52 blocks of 53" "refused 7 0"
+head -c 26624 53-blocks.plq | outline_says "52 blocks of 53" "refused 12 0"
 passed "outline: what comes in pieces, or ends too early"
+
+# the sums of every block are right, but the header is lost, or some blocks are from another image
+seq 0 64 | seal >65-nodes.plq
+seq 0 65 | seal >66-nodes.plq
+(head -c 512 /dev/zero && tail -c +513 diary.plq) | outline_says "a diary without its header" "refused 11 0"
+(head -c 512 diary.plq && tail -c +513 65-nodes.plq) | outline_says "the header of another diary" "refused 13 1"
+(head -c 1536 diary.plq && tail -c +1537 65-nodes.plq) | outline_says "two samples for one" "refused 14 3"
+(head -c 2048 65-nodes.plq && tail -c +2049 66-nodes.plq) | outline_says "samples of another diary" "refused 15 4"
+passed "outline: images that no tree gives, although their sums are right"
 
 # a read that fails counts as the end of the input; a write that fails ends the program, and its status stays 0
 outline_says "a folder" "refused 2 0" <.

@@ -233,6 +233,38 @@ static void add_to_word(uint8_t *at, uint32_t number)
     }
 }
 
+/* Adds to a word of a block and makes its sums right again: s grows by as much, and so does t with this word and with
+ * each after it. */
+static void add_and_mend(uint8_t *image, size_t block, uint32_t word, uint32_t number)
+{
+    uint8_t *at = image + PLQ_BLOCK_BYTES * block;
+    add_to_word(at + 4 * word, number);
+    add_to_word(at + 504, number);
+    add_to_word(at + 508, (126 - word) * number);
+}
+
+/* Images that no tree gives, although their sums are right: for each code the last thing that can be wrong. */
+static void refuse_faults(uint8_t *image, size_t nbytes, uint32_t n, uint32_t m)
+{
+    size_t last = nbytes / PLQ_BLOCK_BYTES - 1, last_of_r0 = (n + 3999) / 4000 + (n + 1 + 3999) / 4000;
+    uint32_t last_bit = n % 4000, its_value = 0x80u >> last_bit % 8 << last_bit / 8 % 4 * 8; /* from 0 in its block */
+    const struct {
+        size_t block;
+        uint32_t word, number, code;
+    } faults[] = {
+        {0, 0, 1, PLQ_OTHER_VERSION},
+        {0, 125, 1, PLQ_WRONG_HEADER},
+        {last_of_r0, 1 + last_bit / 32, 0 - its_value, PLQ_WRONG_STRINGS}, /* R0 without the one that ends it */
+        {last, 125, 1, PLQ_WRONG_COUNTS},                                  /* the last word after the samples */
+        {last, (m - 1) / 64 % 126, 1, PLQ_WRONG_SAMPLES},
+    };
+    for (size_t i = 0; i < sizeof faults / sizeof *faults; i++) {
+        add_and_mend(image, faults[i].block, faults[i].word, faults[i].number);
+        refuse_image(image, nbytes, faults[i].code);
+        add_and_mend(image, faults[i].block, faults[i].word, 0 - faults[i].number);
+    }
+}
+
 static void seal_and_read(const uint32_t *parents, size_t n, uint32_t listed, uint32_t code_of_listing)
 {
     static uint8_t image[PLQ_MOST_IMAGE_BYTES];
@@ -258,12 +290,10 @@ static void seal_and_read(const uint32_t *parents, size_t n, uint32_t listed, ui
         list.code = PLQ_NO_ROOM;
         measure(list);
     }
-    /* with the last word of the payload both sums of its block change by as much */
-    add_to_word(image + bytes - 12, 1);
-    refuse_image(image, bytes, PLQ_WRONG_SUMS);
-    add_to_word(image + bytes - 8, 1);
+    if (bytes == 0) return; /* it was not sealed, which has been said */
+    refuse_faults(image, bytes, sealed.first, sealed.second);
     add_to_word(image + bytes - 4, 1);
-    refuse_image(image, bytes, PLQ_NOT_IMAGE);
+    refuse_image(image, bytes, PLQ_WRONG_SUMS);
 }
 
 static void write_and_read(const uint32_t *parents, size_t n)

@@ -1201,7 +1201,9 @@ fn tables_of_numbers(both: &mut Both, header: &str) -> Tables {
 
     let codes = names_of(header, "enum plq_code {").into_iter().map(|name| {
         let place = match name.as_str() {
-            "PLQ_DONE" | "PLQ_WRONG_SIZE" | "PLQ_NOT_IMAGE" | "PLQ_LEFTOVER_SET" | "PLQ_NO_ROOM" => "0",
+            "PLQ_DONE" | "PLQ_WRONG_SIZE" | "PLQ_OTHER_VERSION" | "PLQ_WRONG_HEADER" => "0",
+            "PLQ_LEFTOVER_SET" | "PLQ_NO_ROOM" => "0",
+            "PLQ_WRONG_STRINGS" => "1, the first block of R1",
             _ => WORDS,
         };
         row![constant(header, &name), name, WORDS, place]
@@ -1240,8 +1242,9 @@ fn rows_of_calls(both: &mut Both, header: &str) -> Vec<Vec<String>> {
         let name = call.name();
         let declared = header.find(&format!("plq_answer {name}(")).expect("declared");
         let comment = &header[header[..declared].rfind("Refusals: ").expect("said before it")..declared];
-        let names = comment["Refusals: ".len()..].split('.').next().expect("up to the full stop").split(", ");
-        let codes: Vec<String> = names.map(|name| constant(header, name).to_string()).collect();
+        // they may go on in the next line of the comment
+        let names = comment["Refusals: ".len()..].split('.').next().expect("up to the full stop").replace("\n *", "");
+        let codes: Vec<String> = names.split(", ").map(|name| constant(header, name).to_string()).collect();
         let answer = both.run(call).0;
         assert_eq!(answer, Answer { code: 0, place: 0, first: first.1, second: second.1 }, "{name}");
         assert_eq!(counts_in_header(header, name), [first.0, second.0], "the header's counts of {name}");
@@ -1278,6 +1281,7 @@ fn tables_of_damage(both: &mut Both) -> Tables {
         (at(4, t), 0x77, false),
         (at(0, 0), 0x00, true),
         (at(0, 1), 0x08, true),
+        (at(0, 2), 0x01, true),
         (at(0, 2), 0x03, true),
         (at(0, 3), 0x06, true),
         (at(0, 4), 0x01, true),
@@ -1304,6 +1308,7 @@ fn tables_of_damage(both: &mut Both) -> Tables {
     let blocks: Vec<&[u8]> = image.chunks(BLOCK_BYTES).collect();
     let mut longer = [&image[..], &[0; BLOCK_BYTES]].concat();
     seal(&mut longer);
+    let no_header = [&[0; BLOCK_BYTES], &image[BLOCK_BYTES..]].concat();
     let begun_at_zero = |block: &[u8]| {
         let mut block = block.to_vec();
         seal(&mut block); // as if it were block 0
@@ -1323,6 +1328,7 @@ fn tables_of_damage(both: &mut Both) -> Tables {
         ("T's image with the four bytes of every word in the other order", other_order.collect()),
         ("T's image twice", image.repeat(2)),
         ("T's image and a block of zeros with right sums", longer),
+        ("T's image with zeros in the place of its header", no_header),
         ("zeros, a block more than the largest image", vec![0; BLOCK_BYTES * (MOST_BLOCKS + 1)]),
     ];
     let files = files.map(|(name, file)| {
@@ -1331,15 +1337,100 @@ fn tables_of_damage(both: &mut Both) -> Tables {
         row![name, bytes, answer.code, answer.place]
     });
     vec![
+        ("| field | where it is | code | place |", rows_of_fields(both)),
         ("| offset | byte | changed to | sums | code | place | what it is |", edits.to_vec()),
         ("| file | bytes | code | place |", files.to_vec()),
     ]
 }
 
+/// The fields of an image: where each is, and what is answered where one of them is changed and the sums are right.
+fn rows_of_fields(both: &mut Both) -> Vec<Vec<String>> {
+    let mut fields: BTreeMap<usize, Vec<(usize, Answer)>> = BTreeMap::new();
+    for example in [Example::of(&T), Example::of(&parents_of_shape(Shape::Path, 8_065))] {
+        for (field, byte, bits) in changes_of_fields(&example) {
+            let block = byte / BLOCK_BYTES;
+            let mut image = example.image.clone();
+            image[byte] ^= bits;
+            let damaged = both.check_image(image.clone());
+            assert_eq!((damaged.code, damaged.place as usize), (6, block), "with the sums as they were");
+            seal(&mut image);
+            fields.entry(field).or_default().push((block, both.check_image(image)));
+        }
+    }
+    let reserved = format!("words 4 to {} of the header", PAYLOAD_WORDS - 1);
+    let where_they_are = [
+        "word 0 of the header",
+        "words 1 and 2 of the header",
+        "words 1 and 2 of the header",
+        "word 3 of the header",
+        &reserved,
+        WORDS,
+        "word 0 of a block of R1 or R0",
+        WORDS,
+        WORDS,
+        WORDS,
+    ];
+    let rows = fields.into_values().zip(where_they_are).map(|(answers, place_of_field)| {
+        let codes: BTreeSet<u32> = answers.iter().map(|(_, answer)| answer.code).collect();
+        assert_eq!(codes.len(), 1, "one code for {place_of_field}: {answers:?}");
+        let places: BTreeSet<u32> = answers.iter().map(|(_, answer)| answer.place).collect();
+        let place = match places.len() {
+            1 => answers[0].1.place.to_string(),
+            _ if answers.iter().all(|(block, answer)| answer.place as usize == *block) => "its block".to_string(),
+            _ => panic!("the places for {place_of_field}: {answers:?}"),
+        };
+        row![WORDS, place_of_field, answers[0].1.code, place]
+    });
+    rows.collect()
+}
+
+/// Changes of single bytes of a tree's image: the number of the field, from 0 in the order of the table, the byte, and
+/// its bits that change.
+fn changes_of_fields(example: &Example) -> Vec<(usize, usize, u8)> {
+    let Layout { r1, r0, r1_samples, r0_samples, n, samples } = Layout::of(example.n(), example.m());
+    let at = |block: usize, word: usize| BLOCK_BYTES * (block + word / PAYLOAD_WORDS) + 4 * (word % PAYLOAD_WORDS);
+    let bit = |field: usize, first_block: usize, index: usize| {
+        let (byte, mask) = place_of_bit(first_block, index);
+        (field, byte, mask)
+    };
+    let mut changes = vec![
+        (0, at(0, 0), 1),
+        (0, at(0, 0), 2),
+        (1, at(0, 1) + 2, 1), // 65,536 nodes more
+        (1, at(0, 2) + 3, 1),
+        (2, at(0, 1), 8), // 8 nodes more in both trees, and as many blocks as before
+        (3, at(0, 3), 1),
+        (4, at(0, 4), 1),
+        (4, at(0, 64), 1),
+        (4, at(0, PAYLOAD_WORDS - 1) + 3, 0x80),
+    ];
+    if example.m() + 1 < example.n() {
+        changes.push((2, at(0, 2), 1));
+    }
+    for (first, blocks, bits) in [(r1.start, r1.len(), n), (r0.start, r0.len(), n + 1)] {
+        changes.extend([0, bits / 2, bits - 1].map(|index| bit(5, first, index)));
+        changes.extend((first..first + blocks).map(|block| (6, at(block, 0), 1)));
+        changes.extend([bits, blocks * BITS_IN_BLOCK - 1].map(|index| bit(7, first, index)));
+    }
+    for blocks in [r1_samples, r0_samples] {
+        let (first, all) = (blocks.start, blocks.len() * PAYLOAD_WORDS);
+        changes.extend(blocks.map(|block| (8, at(block, 0), 1)));
+        changes.push((8, at(first, samples - 1), 2));
+        changes.extend([samples, all - 1].map(|word| (9, at(first, word), 1)));
+    }
+    changes
+}
+
 /// The numbers in sentences: what is said, and the numbers that must be in the holes.
 fn sentences(both: &mut Both, header: &str, t: &Example) -> Vec<(&'static str, Vec<String>)> {
     let code = |name: &str| constant(header, name);
-    let (size, sums, image) = (code("PLQ_WRONG_SIZE"), code("PLQ_WRONG_SUMS"), code("PLQ_NOT_IMAGE"));
+    let (size, sums) = (code("PLQ_WRONG_SIZE"), code("PLQ_WRONG_SUMS"));
+    let (other_version, wrong_header) = (code("PLQ_OTHER_VERSION"), code("PLQ_WRONG_HEADER"));
+    let (strings, counts, samples) = (code("PLQ_WRONG_STRINGS"), code("PLQ_WRONG_COUNTS"), code("PLQ_WRONG_SAMPLES"));
+    let codes: Vec<usize> = names_of(header, "enum plq_code {").iter().map(|name| code(name)).collect();
+    let [retired] = (0..codes.len()).filter(|code| !codes.contains(code)).collect::<Vec<usize>>()[..] else {
+        panic!("one number is no code any more, up to {}", codes.len())
+    };
     let (least_bytes, most_bytes) = (Example::of(&[0]).image.len(), constant(header, "PLQ_MOST_IMAGE_BYTES"));
     let least_blocks = least_bytes / BLOCK_BYTES;
     let last_word = PAYLOAD_WORDS - 1;
@@ -1410,25 +1501,34 @@ fn sentences(both: &mut Both, header: &str, t: &Example) -> Vec<(&'static str, V
         ("or not of {} to {}; questions", &[least_blocks, MOST_BLOCKS]),
         ("questions not in threes, or over {} |", &[MOST_QUESTIONS]),
         ("| the lowest such block, from {} |", &[0]),
+        ("| the version is not {} |", &[version]),
         ("begin no string of a tree of {} to {} nodes (pack", &[1, MOST_NODES]),
         ("L + {} if there is no such p", &[1]),
         ("| the lowest offending entry, from {} |", &[1]),
         ("a listing of a node not from {} to n | the lowest such question, from {}; for a listing {} |", &[1, 1, 1]),
         ("at depth {}", &[too_deep]),
+        ("Code {} is retired: no call answers it", &[retired]),
+        ("for what codes {} to {} tell apart", &[other_version, samples]),
         ("whole blocks of {} bytes, and of {} to {} of them;", &[BLOCK_BYTES, least_blocks, MOST_BLOCKS]),
         ("of them; else code {}.", &[size]),
         ("in the file; else code {}, with", &[sums]),
-        ("hold; else code {}, with place {} whichever it is", &[image, 0]),
-        ("oints for code {}", &[image]),
-        ("- Word {} of the header is {}, and n, in word {}, is from {} to {}.", &[0, version, 1, 1, MOST_NODES]),
+        ("The version, in word {} of the header, is {}; else code {}, with place {}.", &[0, version, other_version, 0]),
+        ("of this length; else code {}, with place {}.", &[wrong_header, 0]),
+        ("with this n and m; else code {}, with place {} in", &[strings, 1]),
+        ("unused payload is zero; else code {}, with", &[counts]),
+        ("the samples are right; else code {}, with", &[samples]),
+        ("Points for code {}:\n\n- n, in word {}, is from {} to {}, and", &[wrong_header, 1, 1, MOST_NODES]),
+        ("and m, in word {}, is from `least_m` to `most_m`.", &[2]),
         ("the same in word {}, by", &[3]),
         ("- Words {} to {} of the header are zero.", &[4, last_word]),
+        ("Points for code {}, with n and m as in the header", &[strings]),
         ("at bit n, and R0 at bit n + {}.", &[1]),
-        ("with m as in word {}.", &[2]),
         ("for each k from {} to m - {}.", &[1, 1]),
-        ("- Word {} of each block of R1 and R0 is", &[0]),
+        ("Points for code {}:\n\n- Word {} of each block of R1 and R0 is", &[counts, 0]),
         ("so it is {} in the first.", &[0]),
-        ("Code {} does not depend", &[image]),
+        ("Point for code {}:", &[samples]),
+        ("left as they were the code is {}, and the place", &[sums]),
+        ("Then the code is {} or {} if a count or a sample", &[counts, samples]),
         ("first, {} to a block, after one word", &[BITS_IN_BLOCK]),
         ("as positions from {} in the whole string", &[1]),
         ("- Code {}: the length of the file.", &[size]),
@@ -1438,9 +1538,17 @@ fn sentences(both: &mut Both, header: &str, t: &Example) -> Vec<(&'static str, V
         ("- Code {} with place {}: look at the header.", &[sums, 0]),
         ("- Code {} with place {}: look whether the file is all zeros", &[sums, 1]),
         ("are right in block {}, and in no other", &[0]),
-        ("- Code {}: all sums are right", &[image]),
-        ("beginning with word {} of the header", &[3]),
-        ("- Code {} from another maker's writer", &[image]),
+        ("- Codes {} to {}: all sums are right", &[other_version, samples]),
+        ("- Code {}: the version, in word {} of the header.", &[other_version, 0]),
+        ("If block {} is not zeros", &[0]),
+        ("If block {} is all zeros", &[0]),
+        ("- Code {}: words {} to {} of the header, and the length", &[wrong_header, 1, 3]),
+        ("If word {} agrees with it and the file does not", &[3]),
+        ("- Code {}: R1 and R0, from the place on, against the points for code {}.", &[strings, strings]),
+        ("- Code {}: the block in the place.\n  In R1 and R0 compare its word {} with", &[counts, 0]),
+        ("- Code {}: the block in the place.\n  Compare its words", &[samples]),
+        ("- Codes {} and {}: the strings are those of a tree", &[counts, samples]),
+        ("and section {} says how to get it from them", &[1]),
         ("- Code {} from `outline`:", &[code("PLQ_TOO_DEEP")]),
         ("codes {}, {} and {} are about", &[code("PLQ_NOT_ALLOWED"), code("PLQ_TOO_DEEP"), code("PLQ_NO_ROOM")]),
     ];

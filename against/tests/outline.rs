@@ -1,5 +1,6 @@
 //! The program `outline`, started on images that the model made, compared with what the model prints.
 
+use against::compare::layout::with_words;
 use against::compare::random::Random;
 use against::compare::shapes::{parent_list, Shape, SHAPES};
 use against::compare::twelve_cases::image_of_t;
@@ -41,7 +42,29 @@ fn image(shape: Shape, n: usize) -> Vec<u8> {
     image_of_tree(&Tree::of_parent_list(&parents).expect("made as a tree"))
 }
 
-/// Some forty inputs: every shape, the limits of the listing and of the input, and every refusal.
+/// Images with a word or two changed and the sums made right: each code from 11 to 15.
+fn images_with_faults() -> Vec<(String, Vec<u8>)> {
+    let (t, star, path) = (image_of_t(), image(Shape::Star, 4_000), image(Shape::Path, 8_065));
+    let images = [
+        ("T of version 2", with_words(&t, &[(0, 0, 2)])),
+        ("T with m = 1", with_words(&t, &[(0, 2, 1)])),
+        ("T with a reserved word set", with_words(&t, &[(0, 125, 1)])),
+        ("T without R1", with_words(&t, &[(1, 1, 0)])),
+        ("T with a wrong count", with_words(&t, &[(2, 0, 1)])),
+        ("T with a word after the samples", with_words(&t, &[(4, 125, 1)])),
+        ("T with a wrong sample", with_words(&t, &[(3, 0, 2)])),
+        ("T with a wrong sample, and a word after those in the next block", with_words(&t, &[(3, 0, 2), (4, 1, 1)])),
+        ("T without R0 and with a wrong count", with_words(&t, &[(2, 1, 0), (1, 0, 1)])),
+        ("a star with 3,999 nodes in its header", with_words(&star, &[(0, 1, 3_999)])),
+        ("a star with a wrong count in the second block of R0", with_words(&star, &[(3, 0, 0)])),
+        ("a path with 8,064 for m in its header", with_words(&path, &[(0, 2, 8_064)])),
+        ("a path with wrong samples in both second blocks", with_words(&path, &[(10, 0, 0), (8, 0, 0)])),
+        ("a path with a wrong sample, and a word after the last", with_words(&path, &[(7, 0, 0), (10, 1, 1)])),
+    ];
+    images.map(|(name, image)| (name.to_string(), image)).to_vec()
+}
+
+/// Some fifty inputs: every shape, the limits of the listing and of the input, and every refusal.
 fn inputs() -> Vec<(String, Vec<u8>)> {
     let mut inputs = vec![("T".to_string(), image_of_t())];
     let any_shape = SHAPES.map(|shape| (shape, 50));
@@ -80,6 +103,7 @@ fn inputs() -> Vec<(String, Vec<u8>)> {
     seal(&mut damaged);
     inputs.push(("the same with right sums".to_string(), damaged));
     inputs.push(("T twice".to_string(), image_of_t().repeat(2)));
+    inputs.extend(images_with_faults());
     inputs
 }
 

@@ -1,6 +1,6 @@
 //! "The order of blocks", for those who damage images.
 
-use crate::model::images::{BITS_IN_BLOCK, BLOCK_BYTES, COUNT_BYTES, PAYLOAD_WORDS, SAMPLE_STEP};
+use crate::model::images::{seal, BITS_IN_BLOCK, BLOCK_BYTES, COUNT_BYTES, PAYLOAD_WORDS, SAMPLE_STEP};
 use std::ops::Range;
 
 /// Which blocks of an image hold what.
@@ -40,4 +40,14 @@ pub fn word_at(image: &mut [u8], first_block: usize, index: usize) -> &mut [u8; 
     let begin = block * BLOCK_BYTES + 4 * (index % PAYLOAD_WORDS);
     let bytes = &mut image[begin..begin + 4];
     bytes.try_into().expect("four bytes")
+}
+
+/// The image with other words, each as block, word in it and value, and with the sums made right again.
+pub fn with_words(image: &[u8], words: &[(usize, usize, u32)]) -> Vec<u8> {
+    let mut image = image.to_vec();
+    for &(block, index, value) in words {
+        *word_at(&mut image, block, index) = value.to_le_bytes();
+    }
+    seal(&mut image);
+    image
 }

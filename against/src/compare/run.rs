@@ -29,20 +29,21 @@ impl Totals {
         }
     }
 
-    /// Prints how often each call answered with each code; says whether each call had all of its codes and no others.
+    /// Prints how often each call answered with each code, as the table of docs/AGAINST.md; says whether each call had
+    /// all of its codes and no others.
     pub fn print_codes(&self) -> bool {
+        println!("| call | {} |", CODES.map(|code| code.to_string()).join(" | "));
+        println!("|---|{}", "--:|".repeat(CODES.len()));
+        for (call, _) in CODES_OF_CALLS {
+            let cells = CODES.map(|code| self.codes.get(&(*call, code)).map_or(String::new(), |&count| grouped(count)));
+            println!("| `{call}` | {} |", cells.join(" | "));
+        }
         let mut as_listed = true;
         for (call, listed) in CODES_OF_CALLS {
-            let counts: Vec<(u32, u64)> = self
-                .codes
-                .iter()
-                .filter(|((name, _), _)| name == call)
-                .map(|((_, code), count)| (*code, *count))
-                .collect();
-            let texts: Vec<String> = counts.iter().map(|(code, count)| format!("{code}: {count}")).collect();
-            println!("{call}, answers with code {}", texts.join(", "));
-            if !counts.iter().map(|(code, _)| code).eq(*listed) {
-                println!("  but its codes are {listed:?}");
+            let answered: Vec<u32> =
+                self.codes.keys().filter(|(name, _)| name == call).map(|(_, code)| *code).collect();
+            if answered != *listed {
+                println!("{call} answered with codes {answered:?}, but its codes are {listed:?}");
                 as_listed = false;
             }
         }
@@ -50,17 +51,29 @@ impl Totals {
     }
 }
 
+/// A number with commas, as in 65,535.
+fn grouped(number: u64) -> String {
+    if number < 1_000 {
+        number.to_string()
+    } else {
+        format!("{},{:03}", grouped(number / 1_000), number % 1_000)
+    }
+}
+
+/// All codes, in the order of the table of codes.
+const CODES: [u32; 15] = [0, 2, 6, 11, 12, 13, 14, 15, 5, 4, 10, 3, 8, 9, 1];
+
 /// The codes that the library's header has for each call, in increasing order.
 const CODES_OF_CALLS: &[(&str, &[u32])] = &[
     ("plq_string_of_parents", &[0, 1, 2, 3]),
     ("plq_parents_of_string", &[0, 1, 2, 4, 5]),
     ("plq_image_of_parents", &[0, 1, 2, 3]),
-    ("plq_parents_of_image", &[0, 1, 2, 6, 7]),
-    ("plq_check_image", &[0, 2, 6, 7]),
-    ("plq_ask", &[0, 1, 2, 6, 7, 8]),
+    ("plq_parents_of_image", &[0, 1, 2, 6, 11, 12, 13, 14, 15]),
+    ("plq_check_image", &[0, 2, 6, 11, 12, 13, 14, 15]),
+    ("plq_ask", &[0, 1, 2, 6, 8, 11, 12, 13, 14, 15]),
     ("plq_split", &[0, 1, 2, 4, 5, 10]),
     ("plq_join", &[0, 1, 2, 3, 4, 5, 10]),
-    ("plq_list", &[0, 1, 2, 6, 7, 8, 9]),
+    ("plq_list", &[0, 1, 2, 6, 8, 9, 11, 12, 13, 14, 15]),
 ];
 
 /// Each group has random numbers of its own, so that what it draws does not depend on the groups before it.

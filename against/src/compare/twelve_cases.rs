@@ -224,7 +224,7 @@ mod tests {
         assert_eq!(image_of(Shape::Path, 65_535).len(), 27_136);
         // "n = 65,535 accepted, 65,536 not"
         assert_eq!(calls::check_image(&image_of(Shape::Path, 65_535)), Ok((65_535, 65_535)));
-        assert_eq!(calls::check_image(&image_of(Shape::Star, 65_536)), Err(Refusal::NotAnImage));
+        assert_eq!(calls::check_image(&image_of(Shape::Star, 65_536)), Err(Refusal::WrongHeader));
         assert_eq!(calls::string_of_parents(&[0; 65_536], &mut []), Err(Refusal::WrongSize));
         // "listing a path of 64 nodes works, of 65 gives code 9 with place 65"
         let mut pairs = [0; 130];

@@ -1,12 +1,14 @@
 //! Deliberately wrong functions around the library, to show that the comparison finds them.
 
 use super::call::Call;
-use super::layout::{place_of_bit, word_at, Layout};
+use super::layout::{place_of_bit, with_words, word_at, Layout};
 use super::run::{first_difference, DEFAULT_SEED};
 use crate::library::{Library, Returned};
 use crate::model::answers::{number, Answer};
 use crate::model::calls;
-use crate::model::images::{candidate, image_of_tree, seal, BITS_IN_BLOCK, BLOCK_BYTES, PAYLOAD_BYTES, PAYLOAD_WORDS};
+use crate::model::images::{
+    candidate, image_of_tree, seal, wrong_words, WrongWords, BITS_IN_BLOCK, BLOCK_BYTES, PAYLOAD_BYTES, PAYLOAD_WORDS,
+};
 use crate::model::strings::MOST_BITS;
 use crate::model::trees::Tree;
 
@@ -247,6 +249,193 @@ pub const WRONG: &[Wrong] = &[
         },
     },
     Wrong {
+        name: "check-still-answers-7",
+        what: "plq_check_image answers with the code that 11 to 15 took the place of",
+        spoil: |_, after, answer| {
+            if let (11..=15, Call::CheckImage { .. }) = (answer.code, after) {
+                *answer = refused(7, 0);
+            }
+        },
+    },
+    Wrong {
+        name: "check-takes-version-for-header",
+        what: "plq_check_image answers another version with the code of a wrong header",
+        spoil: |_, after, answer| {
+            if let (11, Call::CheckImage { .. }) = (answer.code, after) {
+                *answer = refused(12, 0);
+            }
+        },
+    },
+    Wrong {
+        name: "check-looks-at-version-first",
+        what: "plq_check_image looks at the version before the sums",
+        spoil: |_, after, answer| {
+            if let (6, Call::CheckImage { image }) = (answer.code, after) {
+                if header_word(image, 0) != 1 {
+                    *answer = refused(11, 0);
+                }
+            }
+        },
+    },
+    Wrong {
+        name: "check-looks-at-version-late",
+        what: "plq_check_image looks at the version after all else in the image",
+        spoil: |_, after, answer| {
+            if let (11, Call::CheckImage { image }) = (answer.code, after) {
+                let all_else = with_header_word(image, 0, 1);
+                *answer = if all_else.code == 0 { *answer } else { all_else };
+            }
+        },
+    },
+    Wrong {
+        name: "check-allows-m-of-1",
+        what: "plq_check_image finds no fault with m = 1 in a header of two nodes or more",
+        spoil: |_, after, answer| {
+            if let (12, Call::CheckImage { image }) = (answer.code, after) {
+                let is_right_but_for_m = with_header_word(image, 2, 2).code != 12;
+                if header_word(image, 2) == 1 && is_right_but_for_m {
+                    *answer = refused(13, 1);
+                }
+            }
+        },
+    },
+    Wrong {
+        name: "check-names-header-for-strings",
+        what: "plq_check_image gives place 0 for wrong strings",
+        spoil: |_, after, answer| {
+            if let (13, Call::CheckImage { .. }) = (answer.code, after) {
+                answer.place = 0;
+            }
+        },
+    },
+    Wrong {
+        name: "check-names-r0-for-strings",
+        what: "plq_check_image names the first block of R0 for wrong strings, where R1 begins and ends with a one",
+        spoil: |_, after, answer| {
+            if let (13, Call::CheckImage { image }) = (answer.code, after) {
+                let n = header_word(image, 1) as usize;
+                let is_one = |index: usize| {
+                    let (byte, mask) = place_of_bit(1, index);
+                    image[byte] & mask != 0
+                };
+                if is_one(0) && is_one(n - 1) {
+                    answer.place = number(first_block_of_r0(image));
+                }
+            }
+        },
+    },
+    Wrong {
+        name: "check-takes-other-m-for-header",
+        what: "plq_check_image answers strings of a tree with another m with the code of a wrong header",
+        spoil: |_, after, answer| {
+            if let (13, Call::CheckImage { image }) = (answer.code, after) {
+                if candidate(image).is_some() {
+                    *answer = refused(12, 0);
+                }
+            }
+        },
+    },
+    Wrong {
+        name: "check-looks-at-counts-first",
+        what: "plq_check_image looks at the counts of the first blocks of R1 and R0 before the strings",
+        spoil: |_, after, answer| {
+            if let (13, Call::CheckImage { image }) = (answer.code, after) {
+                let first_blocks = [1, first_block_of_r0(image)];
+                if let Some(block) = first_blocks.into_iter().find(|&block| image[block * BLOCK_BYTES] != 0) {
+                    *answer = refused(14, number(block));
+                }
+            }
+        },
+    },
+    Wrong {
+        name: "check-names-highest-count",
+        what: "plq_check_image names the highest block with a wrong count or unused payload",
+        spoil: |_, after, answer| {
+            answer_by_words(after, answer, 14, |_, wrong| refused(14, wrong.others.last().map_or(0, block_of)));
+        },
+    },
+    Wrong {
+        name: "check-names-highest-samples",
+        what: "plq_check_image names the highest block with a wrong sample",
+        spoil: |_, after, answer| {
+            answer_by_words(after, answer, 15, |_, wrong| refused(15, wrong.samples.last().map_or(0, block_of)));
+        },
+    },
+    Wrong {
+        name: "check-samples-before-counts",
+        what: "plq_check_image looks at the samples before counts and unused payload",
+        spoil: |_, after, answer| {
+            answer_by_words(after, answer, 14, |_, wrong| match wrong.samples.first() {
+                Some(sample) => refused(15, block_of(sample)),
+                None => refused(14, block_of(&wrong.others[0])),
+            });
+        },
+    },
+    Wrong {
+        name: "check-goes-by-blocks",
+        what: "plq_check_image answers wrong samples where a higher block has a wrong count or unused payload",
+        spoil: |_, after, answer| {
+            answer_by_words(after, answer, 14, |_, wrong| match wrong.samples.first() {
+                Some(sample) if sample.0 < wrong.others[0].0 => refused(15, block_of(sample)),
+                _ => refused(14, block_of(&wrong.others[0])),
+            });
+        },
+    },
+    Wrong {
+        name: "check-takes-unused-words-for-samples",
+        what: "plq_check_image answers words after the samples with the code of wrong samples",
+        spoil: |_, after, answer| {
+            answer_by_words(after, answer, 14, |image, wrong| {
+                let lowest = wrong.others[0];
+                if lowest.0 < first_block_of_samples(image) {
+                    return refused(14, block_of(&lowest));
+                }
+                refused(15, block_of(wrong.samples.first().unwrap_or(&lowest).min(&lowest)))
+            });
+        },
+    },
+    Wrong {
+        name: "check-takes-unused-bits-for-strings",
+        what: "plq_check_image answers bits after a string with the code of wrong strings",
+        spoil: |_, after, answer| {
+            answer_by_words(after, answer, 14, |image, wrong| {
+                let bits = 1..first_block_of_samples(image);
+                // word 0 of these blocks is a count
+                match wrong.others.iter().any(|(block, word)| bits.contains(block) && *word > 0) {
+                    true => refused(13, 1),
+                    false => refused(14, block_of(&wrong.others[0])),
+                }
+            });
+        },
+    },
+    Wrong {
+        name: "parents-of-image-names-no-block",
+        what: "plq_parents_of_image gives place 0 with codes 13 to 15",
+        spoil: |_, after, answer| {
+            if let (13..=15, Call::ParentsOfImage { .. }) = (answer.code, after) {
+                answer.place = 0;
+            }
+        },
+    },
+    Wrong {
+        name: "ask-takes-samples-for-counts",
+        what: "plq_ask answers wrong samples with the code of wrong counts",
+        spoil: |_, after, answer| {
+            if let (15, Call::Ask { .. }) = (answer.code, after) {
+                answer.code = 14;
+            }
+        },
+    },
+    Wrong {
+        name: "list-looks-at-node-first",
+        what: "plq_list refuses a node that no tree has before it looks into the image",
+        spoil: |_, after, answer| {
+            if let (11..=15, Call::List { node: 0, .. }) = (answer.code, after) {
+                *answer = refused(8, 1);
+            }
+        },
+    },
+    Wrong {
         name: "ask-answers-only-first",
         what: "plq_ask answers the first question and gives 0 for the rest",
         spoil: |_, after, answer| {
@@ -442,10 +631,10 @@ fn refused(code: u32, place: u32) -> Answer {
     Answer { code, place, first: 0, second: 0 }
 }
 
-/// A check that looks at less: an image refused with code 7 is accepted if it is right once what is not looked at
-/// has been made right. `repair` gets the image, the right image of the only tree in question, and its layout.
+/// A check that looks at less: an image refused with codes 11 to 15 is accepted if it is right once what is not looked
+/// at has been made right. `repair` gets the image, the right image of the only tree in question, and its layout.
 fn accept_where(call: &Call, answer: &mut Answer, repair: fn(&mut [u8], &mut [u8], &Layout)) {
-    let (7, Call::CheckImage { image }) = (answer.code, call) else { return };
+    let (11..=15, Call::CheckImage { image }) = (answer.code, call) else { return };
     let Some(tree) = candidate(image) else { return };
     let mut right = image_of_tree(&tree);
     if right.len() != image.len() {
@@ -459,6 +648,36 @@ fn accept_where(call: &Call, answer: &mut Answer, repair: fn(&mut [u8], &mut [u8
     if repaired == right {
         *answer = accepted;
     }
+}
+
+/// A check that answers otherwise, by the words that are wrong, where it should answer with this code, 14 or 15.
+fn answer_by_words(call: &Call, answer: &mut Answer, code: u32, otherwise: fn(&[u8], &WrongWords) -> Answer) {
+    let Call::CheckImage { image } = call else { return };
+    if answer.code == code && *answer == call.clone().by_model() {
+        let tree = candidate(image).expect("header and strings are right");
+        *answer = otherwise(image, &wrong_words(image, &tree));
+    }
+}
+
+fn header_word(image: &[u8], index: usize) -> u32 {
+    u32::from_le_bytes(image[4 * index..][..4].try_into().expect("four bytes"))
+}
+
+/// What is answered where the header has another word.
+fn with_header_word(image: &[u8], index: usize, value: u32) -> Answer {
+    Call::CheckImage { image: with_words(image, &[(0, index, value)]) }.by_model()
+}
+
+fn first_block_of_r0(image: &[u8]) -> usize {
+    Layout::of(header_word(image, 1) as usize, 1).r0.start
+}
+
+fn first_block_of_samples(image: &[u8]) -> usize {
+    Layout::of(header_word(image, 1) as usize, 1).r0.end
+}
+
+fn block_of(&(block, _): &(usize, usize)) -> u32 {
+    number(block)
 }
 
 fn listed_in_reverse(tree: &Tree, node: usize, depth: u32) -> Vec<u32> {

@@ -13,16 +13,24 @@ pub struct Answer {
 /// The two counts of an answer with code 0.
 pub type Counts = (usize, usize);
 
-/// The table of codes, one variant a row and in its order. "Where several hold, the upper row wins": every call of
-/// the model asks for them in this order.
+/// The table of codes, one variant a row and in its order, with document 02's "11, 12, 13, 14, 15 in that order, all
+/// where 7 stood". "Where several hold, the upper row wins": every call of the model asks for them in this order.
 #[derive(Clone, Copy, Debug, PartialEq, Eq)]
 pub enum Refusal {
     /// A count, a length or a number of blocks is outside its limits.
     WrongSize,
     /// "A block's s or t is wrong"; place: "lowest such block".
     WrongSums { block: usize },
-    /// "All blocks check, no tree gives this image".
-    NotAnImage,
+    /// "A version other than 1".
+    OtherVersion,
+    /// "Header numbers, taken together, or a reserved word that no tree of this image length has".
+    WrongHeader,
+    /// "Strings that no tree with this n and m gives".
+    WrongStrings,
+    /// "A wrong count of earlier ones or unused payload not zero"; place: "the block, the lowest one of that kind".
+    WrongCounts { block: usize },
+    /// "Wrong samples"; place as for the counts.
+    WrongSamples { block: usize },
     /// "A leftover bit is set".
     LeftoverSet,
     /// "Bits are no tree string (pack: no strings end to end)".
@@ -44,7 +52,13 @@ impl Refusal {
         match self {
             Refusal::WrongSize => (2, 0),
             Refusal::WrongSums { block } => (6, block),
-            Refusal::NotAnImage => (7, 0),
+            // "the place is the block", and both are about the header
+            Refusal::OtherVersion => (11, 0),
+            Refusal::WrongHeader => (12, 0),
+            // "for the strings it is the first R1 block"
+            Refusal::WrongStrings => (13, 1),
+            Refusal::WrongCounts { block } => (14, block),
+            Refusal::WrongSamples { block } => (15, block),
             Refusal::LeftoverSet => (5, 0),
             Refusal::NotAString { bit } => (4, bit),
             Refusal::OtherTrees { found } => (10, found),

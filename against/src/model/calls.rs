@@ -6,7 +6,7 @@
 
 use super::answers::{number, Counts, Refusal};
 use super::bits::{bits_of_bytes, bytes_for, bytes_of_bits};
-use super::images::{self, ones_in, partition};
+use super::images::{self, m_of};
 use super::listing::listing_from;
 use super::packs::{parts_of_pack, MOST_TREES};
 use super::questions::{answers_to, question_count};
@@ -136,14 +136,6 @@ fn bits_without_leftover(bytes: &[u8], count: usize) -> Result<Vec<bool>, Refusa
         return Err(Refusal::LeftoverSet);
     }
     Ok(bits)
-}
-
-/// "m is one more than the number of nodes with children"; that it is also the number of ones of R1 is held against
-/// it here.
-fn m_of(tree: &Tree) -> usize {
-    let with_children = tree.nodes().filter(|&node| !tree.children(node).is_empty()).count();
-    debug_assert_eq!(ones_in(&partition(&string_of_tree(tree)).0), with_children + 1);
-    with_children + 1
 }
 
 fn numbers_of(counts: impl IntoIterator<Item = usize>) -> Vec<u32> {

@@ -117,15 +117,28 @@ pub fn block_count(image: &[u8]) -> Result<usize, Refusal> {
     Ok(blocks)
 }
 
-/// The whole check: the tree that gives this image, or codes 2, 6 and 7 in their order.
+/// The whole check: the tree that gives this image, or what is wrong with it, asked for in the order of the codes.
 pub fn tree_of_image(image: &[u8]) -> Result<Tree, Refusal> {
     block_count(image)?;
     if let Some(block) = lowest_wrong_block(image) {
         return Err(Refusal::WrongSums { block });
     }
-    // If any tree gives this image it is the candidate, for n, R1 and R0 stand where that tree's image has them.
-    // All the rest (m, counts, samples, zeros) is right exactly if the candidate's image has the same bytes.
-    candidate(image).filter(|tree| image_of_tree(tree) == image).ok_or(Refusal::NotAnImage)
+    if word(image, 0, 0) != VERSION {
+        return Err(Refusal::OtherVersion);
+    }
+    if !header_is_of_a_tree(image) {
+        return Err(Refusal::WrongHeader);
+    }
+    let m = word(image, 0, 2) as usize;
+    let tree = candidate(image).filter(|tree| m_of(tree) == m).ok_or(Refusal::WrongStrings)?;
+    let WrongWords { samples, others } = wrong_words(image, &tree);
+    if let Some(&(block, _)) = others.first() {
+        return Err(Refusal::WrongCounts { block });
+    }
+    if let Some(&(block, _)) = samples.first() {
+        return Err(Refusal::WrongSamples { block });
+    }
+    Ok(tree)
 }
 
 fn lowest_wrong_block(image: &[u8]) -> Option<usize> {
@@ -135,7 +148,57 @@ fn lowest_wrong_block(image: &[u8]) -> Option<usize> {
     pairs.enumerate().find(|(_, (given, right))| given != right).map(|(block, _)| block)
 }
 
-/// The only tree that could give this image, from n, R1 and R0 alone.
+/// "m is one more than the number of nodes with children"; that it is also the number of ones of R1 is held against
+/// it here.
+pub fn m_of(tree: &Tree) -> usize {
+    let with_children = tree.nodes().filter(|&node| !tree.children(node).is_empty()).count();
+    debug_assert_eq!(ones_in(&partition(&string_of_tree(tree)).0), with_children + 1);
+    with_children + 1
+}
+
+/// Whether some tree "of this image length" has all words of this header. The words and the length follow from n and m,
+/// so it is enough to look at one tree that has both.
+fn header_is_of_a_tree(image: &[u8]) -> bool {
+    let [n, m] = [1, 2].map(|index| word(image, 0, index) as usize);
+    let right = tree_with(n, m).map(|tree| image_of_tree(&tree));
+    right.is_some_and(|right| right.len() == image.len() && right[..PAYLOAD_BYTES] == image[..PAYLOAD_BYTES])
+}
+
+/// A tree of n nodes of which m - 1 have children, where there is one: these are a path, and all later nodes are
+/// children of the last of them. Where there is none this is no tree, or one with another m.
+fn tree_with(n: usize, m: usize) -> Option<Tree> {
+    if !(1..=MOST_NODES).contains(&n) {
+        return None;
+    }
+    let with_children = m.checked_sub(1)?;
+    let parents: Vec<u32> = (0..n).map(|nodes_before| number(nodes_before.min(with_children))).collect();
+    Tree::of_parent_list(&parents).ok()
+}
+
+/// The words of an image, as block and word in it, that are not those of a tree's image, the lowest block first.
+pub struct WrongWords {
+    /// Samples of R1 and R0.
+    pub samples: Vec<(usize, usize)>,
+    /// All others.
+    pub others: Vec<(usize, usize)>,
+}
+
+/// The words that are not those of the tree's image, which is as long as this one. Where header and strings are the
+/// tree's, those that are no samples are counts of earlier ones and "unused payload".
+pub fn wrong_words(image: &[u8], tree: &Tree) -> WrongWords {
+    let right = image_of_tree(tree);
+    let n = tree.node_count();
+    let samples_begin = 1 + n.div_ceil(BITS_IN_BLOCK) + (n + 1).div_ceil(BITS_IN_BLOCK);
+    // samples are "positions, from 1", and "unused payload is zero"
+    let is_sample = |block: usize, index: usize| block >= samples_begin && word(&right, block, index) != 0;
+    let blocks = 0..image.len() / BLOCK_BYTES;
+    let places = blocks.flat_map(|block| (0..PAYLOAD_WORDS).map(move |index| (block, index)));
+    let wrong = places.filter(|&(block, index)| word(image, block, index) != word(&right, block, index));
+    let (samples, others) = wrong.partition(|&(block, index)| is_sample(block, index));
+    WrongWords { samples, others }
+}
+
+/// The only tree that could give this image, from n, R1 and R0 alone: they are where the image of that tree has them.
 pub fn candidate(image: &[u8]) -> Option<Tree> {
     let n = word(image, 0, 1) as usize;
     if !(1..=MOST_NODES).contains(&n) {

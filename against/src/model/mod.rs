@@ -1,7 +1,8 @@
-//! What document 01 says, written down in the plainest form that computes: parent lists, lists of children, queues
-//! and lists of bits. Nothing here ranks, selects or packs words, and speed does not matter.
+//! What document 01 says, with what item 1 of document 02 changes, written down in the plainest form that computes:
+//! parent lists, lists of children, queues and lists of bits. Nothing here ranks, selects or packs words, and speed
+//! does not matter.
 //!
-//! Words in quotation marks in the comments are document 01's.
+//! Words in quotation marks in the comments are those of the two documents.
 
 pub mod answers;
 pub mod bits;

@@ -1,9 +1,8 @@
 //! "The outline program".
 
 use super::answers::{Answer, Refusal};
-use super::images::{block_count, ones_in, partition, tree_of_image};
+use super::images::{block_count, m_of, tree_of_image};
 use super::listing::listing_from;
-use super::strings::string_of_tree;
 
 /// "If n is at most 4,000, one line for each node".
 const MOST_NODES_LISTED: usize = 4_000;
@@ -26,8 +25,7 @@ fn lines(input: &[u8]) -> Result<Vec<String>, Refusal> {
     let blocks = block_count(input)?;
     let tree = tree_of_image(input)?;
     let n = tree.node_count();
-    let (r1, _) = partition(&string_of_tree(&tree));
-    let mut lines = vec![format!("n {n} m {} blocks {blocks}", ones_in(&r1))];
+    let mut lines = vec![format!("n {n} m {} blocks {blocks}", m_of(&tree))];
     if n <= MOST_NODES_LISTED {
         for entry in listing_from(&tree, ROOT)? {
             // "number, depth, degree, with one space between"

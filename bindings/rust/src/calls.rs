@@ -144,7 +144,8 @@ pub fn image_of_parents(parents: &[u32], image: &mut [u8]) -> Result<Counts> {
 ///
 /// # Errors
 ///
-/// [`Error::WrongSize`], [`Error::WrongSums`], [`Error::NotImage`], [`Error::NoRoom`].
+/// [`Error::WrongSize`], [`Error::WrongSums`], [`Error::OtherVersion`], [`Error::WrongHeader`], [`Error::WrongStrings`],
+/// [`Error::WrongCounts`], [`Error::WrongSamples`], [`Error::NoRoom`].
 pub fn parents_of_image(image: &[u8], parents: &mut [u32]) -> Result<usize> {
     let handed = Handed::Image { bytes: image.len() };
     counts(sys::parents_of_image(image, parents), handed).map(|(nodes, _)| nodes as usize)
@@ -163,12 +164,16 @@ pub fn parents_of_image(image: &[u8], parents: &mut [u32]) -> Result<usize> {
 /// assert_eq!(check_image(&image), Ok(Counts { nodes: 7, runs_of_ones: 4 }));
 /// image[3 * BLOCK_BYTES + 77] ^= 0x20;
 /// assert_eq!(check_image(&image), Err(Error::WrongSums { block: 3 }));
+/// image[3 * BLOCK_BYTES + 77] ^= 0x20;
+/// image[..BLOCK_BYTES].fill(0); // the header is lost; a block 0 of zeros has right sums
+/// assert_eq!(check_image(&image), Err(Error::OtherVersion));
 /// # Ok::<(), parlaqen::Error>(())
 /// ```
 ///
 /// # Errors
 ///
-/// [`Error::WrongSize`], [`Error::WrongSums`], [`Error::NotImage`].
+/// [`Error::WrongSize`], [`Error::WrongSums`], [`Error::OtherVersion`], [`Error::WrongHeader`], [`Error::WrongStrings`],
+/// [`Error::WrongCounts`], [`Error::WrongSamples`].
 pub fn check_image(image: &[u8]) -> Result<Counts> {
     let handed = Handed::Image { bytes: image.len() };
     counts_of_tree(sys::check_image(image), handed)
@@ -193,7 +198,8 @@ pub fn check_image(image: &[u8]) -> Result<Counts> {
 ///
 /// # Errors
 ///
-/// [`Error::WrongSize`], [`Error::WrongSums`], [`Error::NotImage`], [`Error::NotAllowed`], [`Error::NoRoom`].
+/// [`Error::WrongSize`], [`Error::WrongSums`], [`Error::OtherVersion`], [`Error::WrongHeader`], [`Error::WrongStrings`],
+/// [`Error::WrongCounts`], [`Error::WrongSamples`], [`Error::NotAllowed`], [`Error::NoRoom`].
 pub fn ask(image: &[u8], questions: &[i32], answers: &mut [u32]) -> Result<usize> {
     let handed = Handed::ImageAndNumbers { bytes: image.len(), numbers: questions.len() };
     counts(sys::ask(image, questions, answers), handed).map(|(answered, _)| answered as usize)
@@ -261,8 +267,8 @@ pub fn join(pack: &mut [u8], bits: usize, trees: usize, parents: &[u32]) -> Resu
 ///
 /// # Errors
 ///
-/// [`Error::WrongSize`], [`Error::WrongSums`], [`Error::NotImage`], [`Error::NoSuchNode`], [`Error::TooDeep`],
-/// [`Error::NoRoom`].
+/// [`Error::WrongSize`], [`Error::WrongSums`], [`Error::OtherVersion`], [`Error::WrongHeader`], [`Error::WrongStrings`],
+/// [`Error::WrongCounts`], [`Error::WrongSamples`], [`Error::NoSuchNode`], [`Error::TooDeep`], [`Error::NoRoom`].
 pub fn list(image: &[u8], node: u32, pairs: &mut [u32]) -> Result<usize> {
     let handed = Handed::ImageAndNode { bytes: image.len(), node };
     counts(sys::list(image, node, pairs), handed).map(|(listed, _)| listed as usize)

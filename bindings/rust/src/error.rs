@@ -14,16 +14,22 @@ pub(crate) const NUMBERS_OF_QUESTION: usize = 3;
 ///
 /// 1. [`WrongSize`](Self::WrongSize)
 /// 2. [`WrongSums`](Self::WrongSums)
-/// 3. [`NotImage`](Self::NotImage)
-/// 4. [`LeftoverSet`](Self::LeftoverSet)
-/// 5. [`NotString`](Self::NotString), [`EndsTooEarly`](Self::EndsTooEarly)
-/// 6. [`OtherTrees`](Self::OtherTrees)
-/// 7. [`NotParents`](Self::NotParents)
-/// 8. [`NotAllowed`](Self::NotAllowed), [`NoSuchNode`](Self::NoSuchNode), [`NoSuchNodeAsked`](Self::NoSuchNodeAsked)
-/// 9. [`TooDeep`](Self::TooDeep)
-/// 10. [`NoRoom`](Self::NoRoom)
+/// 3. [`OtherVersion`](Self::OtherVersion)
+/// 4. [`WrongHeader`](Self::WrongHeader)
+/// 5. [`WrongStrings`](Self::WrongStrings)
+/// 6. [`WrongCounts`](Self::WrongCounts)
+/// 7. [`WrongSamples`](Self::WrongSamples)
+/// 8. [`LeftoverSet`](Self::LeftoverSet)
+/// 9. [`NotString`](Self::NotString), [`EndsTooEarly`](Self::EndsTooEarly)
+/// 10. [`OtherTrees`](Self::OtherTrees)
+/// 11. [`NotParents`](Self::NotParents)
+/// 12. [`NotAllowed`](Self::NotAllowed), [`NoSuchNode`](Self::NoSuchNode), [`NoSuchNodeAsked`](Self::NoSuchNodeAsked)
+/// 13. [`TooDeep`](Self::TooDeep)
+/// 14. [`NoRoom`](Self::NoRoom)
 ///
-/// The variants below are in the order of their codes.
+/// The variants below are in the order of their codes. Code 7 is retired: no call answers it, and its number is never
+/// used again. Codes 11 to 15 say what is wrong with an image whose sums are right and that no tree gives; the parts of
+/// an image are in `docs/FORMAT.md` of the repository.
 ///
 /// ```
 /// use parlaqen::calls::{check_image, string_of_parents};
@@ -69,8 +75,6 @@ pub enum Error {
         /// The lowest such block, counted from 0.
         block: u32,
     },
-    /// Code 7: all sums are right, but no tree gives this image.
-    NotImage,
     /// Code 8, of questions as numbers: the kind, node or argument of one is not allowed.
     NotAllowed {
         /// The lowest such question, counted from 1.
@@ -99,6 +103,28 @@ pub enum Error {
         found: u32,
         /// The number of trees given.
         given: usize,
+    },
+    /// Code 11: all sums of the image are right, but the version in its header is not 1, as with an older or a newer
+    /// writer.
+    OtherVersion,
+    /// Code 12: no tree with an image of this length has these header numbers, taken together, or a reserved word is not
+    /// zero.
+    WrongHeader,
+    /// Code 13: the header is right, but no tree with its n and m gives these strings, R1 and R0.
+    WrongStrings {
+        /// The first block of R1, which is 1, wherever the fault is.
+        block: u32,
+    },
+    /// Code 14: the strings are those of a tree, but a block has a wrong count of earlier ones, or unused payload that
+    /// is not zero.
+    WrongCounts {
+        /// The lowest such block, counted from 0.
+        block: u32,
+    },
+    /// Code 15: all else of the image is right, but a block has wrong samples.
+    WrongSamples {
+        /// The lowest such block, counted from 0.
+        block: u32,
     },
     /// A code that this crate does not know, or code 0, which is no refusal, with counts that cannot be: the archive
     /// that was linked is of another version than this crate.
@@ -294,7 +320,6 @@ impl Error {
             },
             (5, _) => Self::LeftoverSet,
             (6, _) => Self::WrongSums { block: place },
-            (7, _) => Self::NotImage,
             (8, Handed::ImageAndNode { node, .. }) if place == 1 => Self::NoSuchNode { node },
             (8, Handed::ImageAndQuestions { questions, .. }) => match question_at(questions, place) {
                 Some(question) => Self::NoSuchNodeAsked { question: place, node: question.node().get() },
@@ -305,6 +330,11 @@ impl Error {
             (10, Handed::Pack { trees, .. } | Handed::PackAndParents { trees, .. }) => {
                 Self::OtherTrees { found: place, given: trees }
             }
+            (11, _) => Self::OtherVersion,
+            (12, _) => Self::WrongHeader,
+            (13, _) => Self::WrongStrings { block: place },
+            (14, _) => Self::WrongCounts { block: place },
+            (15, _) => Self::WrongSamples { block: place },
             _ => Self::Unlisted { code, place },
         }
     }
@@ -329,6 +359,7 @@ impl Error {
     ///
     /// assert_eq!(Error::NotString { bit: 7 }.code(), 4);
     /// assert_eq!(Error::EndsTooEarly { bits: 6 }.code(), 4);
+    /// assert_eq!(Error::OtherVersion.code(), 11);
     /// ```
     #[must_use]
     pub const fn code(self) -> u32 {
@@ -339,10 +370,14 @@ impl Error {
             Self::NotString { .. } | Self::EndsTooEarly { .. } => 4,
             Self::LeftoverSet => 5,
             Self::WrongSums { .. } => 6,
-            Self::NotImage => 7,
             Self::NotAllowed { .. } | Self::NoSuchNodeAsked { .. } | Self::NoSuchNode { .. } => 8,
             Self::TooDeep { .. } => 9,
             Self::OtherTrees { .. } => 10,
+            Self::OtherVersion => 11,
+            Self::WrongHeader => 12,
+            Self::WrongStrings { .. } => 13,
+            Self::WrongCounts { .. } => 14,
+            Self::WrongSamples { .. } => 15,
             Self::Unlisted { code, .. } => code,
         }
     }
@@ -354,18 +389,22 @@ impl Error {
     ///
     /// assert_eq!(Error::NoRoom.place(), 0);
     /// assert_eq!(Error::EndsTooEarly { bits: 6 }.place(), 7);
+    /// assert_eq!(Error::WrongSamples { block: 4 }.place(), 4);
     /// assert_eq!(Error::NoSuchNode { node: 9 }.place(), 1);
     /// assert_eq!(Error::NoSuchNodeAsked { question: 700, node: 8 }.place(), 700);
     /// ```
     #[must_use]
     pub const fn place(self) -> u32 {
         match self {
-            Self::NoRoom | Self::WrongSize(_) | Self::LeftoverSet | Self::NotImage => 0,
+            Self::NoRoom | Self::WrongSize(_) | Self::LeftoverSet | Self::OtherVersion | Self::WrongHeader => 0,
             Self::EndsTooEarly { bits } => bits.saturating_add(1),
             Self::NoSuchNode { .. } => 1,
             Self::NotParents { entry: place }
             | Self::NotString { bit: place }
             | Self::WrongSums { block: place }
+            | Self::WrongStrings { block: place }
+            | Self::WrongCounts { block: place }
+            | Self::WrongSamples { block: place }
             | Self::NotAllowed { question: place }
             | Self::NoSuchNodeAsked { question: place, .. }
             | Self::TooDeep { node: place }
@@ -400,7 +439,6 @@ impl fmt::Display for Error {
             Self::EndsTooEarly { bits } => write!(f, "after {} the tree is not over", Count(bits as usize, "bit")),
             Self::LeftoverSet => write!(f, "a bit after the last one, in the same byte, is set"),
             Self::WrongSums { block } => write!(f, "block {block} of the image has wrong sums"),
-            Self::NotImage => write!(f, "all sums are right, but no tree gives this image"),
             Self::NotAllowed { question } => {
                 write!(f, "question {question}: its kind, node or argument is not allowed")
             }
@@ -412,6 +450,23 @@ impl fmt::Display for Error {
             Self::OtherTrees { found, given } => {
                 write!(f, "the pack has {}, not {given}", Count(found as usize, "tree"))
             }
+            Self::OtherVersion => write!(f, "the version in the header is not 1, as with an older or a newer writer"),
+            Self::WrongHeader => {
+                write!(
+                    f,
+                    "no tree with an image of this length has these header numbers, or a reserved word is not zero"
+                )
+            }
+            Self::WrongStrings { block } => {
+                write!(f, "the strings, from block {block} on, are not those of a tree with the header's n and m")
+            }
+            Self::WrongCounts { block } => {
+                write!(
+                    f,
+                    "block {block} of the image has a wrong count of earlier ones, or unused payload that is not zero"
+                )
+            }
+            Self::WrongSamples { block } => write!(f, "block {block} of the image has wrong samples"),
             Self::Unlisted { code, place } => {
                 write!(
                     f,
@@ -493,7 +548,7 @@ mod tests {
     fn each_code_and_place_comes_back_as_it_came() {
         for handed in HANDED {
             for code in 1..30 {
-                let with_place = matches!(code, 3 | 4 | 6 | 8 | 9 | 10..);
+                let with_place = !matches!(code, 1 | 2 | 5 | 11 | 12);
                 for place in [0, 1, 16, 65_535, u32::MAX] {
                     let error = Error::new(code, place, handed);
                     assert_eq!(error.code(), code);
@@ -505,7 +560,7 @@ mod tests {
                     };
                     assert!(!with_place || error.to_string().contains(&said.to_string()));
                     let of_a_pack = matches!(handed, Handed::Pack { .. } | Handed::PackAndParents { .. });
-                    let unlisted = code > 10 || code == 10 && !of_a_pack;
+                    let unlisted = code == 7 || code > 15 || code == 10 && !of_a_pack;
                     assert_eq!(matches!(error, Error::Unlisted { .. }), unlisted, "code {code}");
                 }
             }
@@ -566,6 +621,7 @@ mod tests {
         let asked = Error::NoSuchNodeAsked { question: 3, node: 8 };
         assert_eq!(asked.after_questions(512), Error::NoSuchNodeAsked { question: 515, node: 8 });
         assert_eq!(asked.after_questions(usize::MAX), Error::NoSuchNodeAsked { question: u32::MAX, node: 8 });
-        assert_eq!(Error::NotImage.after_questions(512), Error::NotImage);
+        assert_eq!(Error::WrongHeader.after_questions(512), Error::WrongHeader);
+        assert_eq!(Error::WrongCounts { block: 3 }.after_questions(512), Error::WrongCounts { block: 3 });
     }
 }

@@ -217,7 +217,8 @@ impl<B: AsRef<[u8]>> Image<B> {
     ///
     /// # Errors
     ///
-    /// [`Error::WrongSize`], [`Error::WrongSums`], [`Error::NotImage`].
+    /// [`Error::WrongSize`], [`Error::WrongSums`], [`Error::OtherVersion`], [`Error::WrongHeader`],
+    /// [`Error::WrongStrings`], [`Error::WrongCounts`], [`Error::WrongSamples`].
     pub fn check(bytes: B) -> Result<Self> {
         let counts = check_image(bytes.as_ref())?;
         Ok(Self { bytes, counts })

@@ -161,9 +161,15 @@ fn kinds() {
     }
 }
 
+/// The names of the codes in the header.
+fn names_of_codes() -> Vec<&'static str> {
+    let lines = HEADER.lines().skip_while(|line| *line != "enum plq_code {").skip(1).take_while(|line| *line != "};");
+    lines.filter_map(|line| line.trim_start().split_once(" = ")).map(|(name, _)| name).collect()
+}
+
 #[test]
 fn codes() {
-    for (name, error) in [
+    let codes = [
         ("PLQ_NO_ROOM", Error::NoRoom),
         ("PLQ_WRONG_SIZE", Error::WrongSize(WrongSize::Unlisted)),
         ("PLQ_NOT_PARENTS", Error::NotParents { entry: 1 }),
@@ -171,14 +177,25 @@ fn codes() {
         ("PLQ_NOT_STRING", Error::EndsTooEarly { bits: 1 }),
         ("PLQ_LEFTOVER_SET", Error::LeftoverSet),
         ("PLQ_WRONG_SUMS", Error::WrongSums { block: 1 }),
-        ("PLQ_NOT_IMAGE", Error::NotImage),
         ("PLQ_NOT_ALLOWED", Error::NotAllowed { question: 1 }),
         ("PLQ_NOT_ALLOWED", Error::NoSuchNode { node: 1 }),
         ("PLQ_NOT_ALLOWED", Error::NoSuchNodeAsked { question: 1, node: 1 }),
         ("PLQ_TOO_DEEP", Error::TooDeep { node: 1 }),
         ("PLQ_OTHER_TREES", Error::OtherTrees { found: 1, given: 2 }),
-    ] {
+        ("PLQ_OTHER_VERSION", Error::OtherVersion),
+        ("PLQ_WRONG_HEADER", Error::WrongHeader),
+        ("PLQ_WRONG_STRINGS", Error::WrongStrings { block: 1 }),
+        ("PLQ_WRONG_COUNTS", Error::WrongCounts { block: 1 }),
+        ("PLQ_WRONG_SAMPLES", Error::WrongSamples { block: 3 }),
+    ];
+    for (name, error) in codes {
         assert_eq!(header(name), error.code() as usize, "{name}");
+    }
+    let names = names_of_codes();
+    assert_eq!(names.len(), 15);
+    for name in names {
+        assert!(name == "PLQ_DONE" || codes.iter().any(|(known, _)| *known == name), "no error has the code {name}");
+        assert_ne!(header(name), 7, "{name} has the number of a code that is retired");
     }
 }
 

@@ -44,6 +44,47 @@ fn mend_sums(image: &mut [u8]) {
     }
 }
 
+/// Bytes of T's image, each with another value that leaves it no image once the sums are right again, and the refusal.
+/// None of them makes right what another makes wrong.
+const FAULTS: [(usize, u8, Error); 21] = {
+    const fn at(block: usize, byte: usize) -> usize {
+        BLOCK_BYTES * block + byte
+    }
+    [
+        (at(0, 0), 0, Error::OtherVersion),
+        (at(0, 0), 2, Error::OtherVersion),
+        (at(0, 3), 1, Error::OtherVersion),
+        (at(0, 4), 0, Error::WrongHeader), // no node
+        (at(0, 6), 1, Error::WrongHeader), // 65,543 nodes
+        (at(0, 8), 1, Error::WrongHeader), // no node with children
+        (at(0, 8), 9, Error::WrongHeader), // more nodes with children than there are nodes
+        (at(0, 12), 6, Error::WrongHeader),
+        (at(0, 16), 1, Error::WrongHeader),
+        (at(0, 503), 1, Error::WrongHeader),
+        (at(0, 4), 8, Error::WrongStrings { block: 1 }), // a node more than there are bits in the strings
+        (at(0, 8), 3, Error::WrongStrings { block: 1 }), // a one fewer
+        (at(1, 4), 0x69, Error::WrongStrings { block: 1 }), // R1 with its least significant bit first
+        (at(2, 4), 0x8B, Error::WrongStrings { block: 1 }), // a node that would be its own parent
+        (at(1, 0), 1, Error::WrongCounts { block: 1 }),
+        (at(1, 4), 0x97, Error::WrongCounts { block: 1 }), // the bit after R1
+        (at(2, 503), 1, Error::WrongCounts { block: 2 }),
+        (at(3, 4), 1, Error::WrongCounts { block: 3 }), // a second sample
+        (at(4, 503), 1, Error::WrongCounts { block: 4 }),
+        (at(3, 0), 0, Error::WrongSamples { block: 3 }),
+        (at(4, 0), 2, Error::WrongSamples { block: 4 }),
+    ]
+};
+
+/// T's image with some of these bytes changed, and the sums made right again.
+fn with_faults(faults: &[(usize, u8, Error)]) -> Vec<u8> {
+    let mut image = image_of_t();
+    for (at, byte, _) in faults {
+        image[*at] = *byte;
+    }
+    mend_sums(&mut image);
+    image
+}
+
 /// Damaged images with what every reading of an image says of them.
 fn bad_images() -> Vec<(Vec<u8>, Error)> {
     let good = image_of_t();
@@ -54,7 +95,7 @@ fn bad_images() -> Vec<(Vec<u8>, Error)> {
     };
     let too_long = |bytes| Error::WrongSize(WrongSize::ImageTooLong { bytes });
     let wrong_blocks = |blocks| Error::WrongSize(WrongSize::ImageBlocks { blocks });
-    vec![
+    let mut images = vec![
         (vec![], wrong_blocks(0)),
         (with(|image| image.truncate(4 * BLOCK_BYTES)), wrong_blocks(4)),
         (with(|image| image.push(0)), Error::WrongSize(WrongSize::ImageBytes { bytes: 2_561 })),
@@ -73,19 +114,14 @@ fn bad_images() -> Vec<(Vec<u8>, Error)> {
         ),
         (
             with(|image| {
-                image[0] = 2; // another version
+                image.resize(6 * BLOCK_BYTES, 0); // a block more than the header says
                 mend_sums(image);
             }),
-            Error::NotImage,
+            Error::WrongHeader,
         ),
-        (
-            with(|image| {
-                image[3 * BLOCK_BYTES] ^= 1; // a wrong sample
-                mend_sums(image);
-            }),
-            Error::NotImage,
-        ),
-    ]
+    ];
+    images.extend(FAULTS.map(|fault| (with_faults(&[fault]), fault.2)));
+    images
 }
 
 #[test]
@@ -151,6 +187,22 @@ fn every_reading_of_an_image_refuses_what_is_none() {
         assert_eq!(refused(9, 77, |parents| parents_of_image(&image, parents)), error);
         assert_eq!(refused(9, 77, |answers| ask(&image, &[1, 1, 0], answers)), error);
         assert_eq!(refused(18, 77, |pairs| list(&image, 1, pairs)), error);
+    }
+}
+
+#[test]
+fn of_several_faults_the_lowest_code_is_given_and_then_the_lowest_block() {
+    for (number, one) in FAULTS.into_iter().enumerate() {
+        for other in FAULTS.into_iter().skip(number + 1).filter(|other| other.0 != one.0) {
+            let first = if (other.2.code(), other.2.place()) < (one.2.code(), one.2.place()) { other } else { one };
+            assert_eq!(check_image(&with_faults(&[one, other])), Err(first.2), "{one:?}, {other:?}");
+        }
+    }
+    // wrong sums go before all of them, in whichever block
+    for fault in FAULTS {
+        let mut image = with_faults(&[fault]);
+        image[5 * BLOCK_BYTES - 1] ^= 1;
+        assert_eq!(check_image(&image), Err(Error::WrongSums { block: 4 }));
     }
 }
 
@@ -389,7 +441,20 @@ fn every_refusal_is_one_sentence() {
         (Error::EndsTooEarly { bits: 1 }, "after 1 bit the tree is not over"),
         (Error::LeftoverSet, "a bit after the last one, in the same byte, is set"),
         (Error::WrongSums { block: 3 }, "block 3 of the image has wrong sums"),
-        (Error::NotImage, "all sums are right, but no tree gives this image"),
+        (Error::OtherVersion, "the version in the header is not 1, as with an older or a newer writer"),
+        (
+            Error::WrongHeader,
+            "no tree with an image of this length has these header numbers, or a reserved word is not zero",
+        ),
+        (
+            Error::WrongStrings { block: 1 },
+            "the strings, from block 1 on, are not those of a tree with the header's n and m",
+        ),
+        (
+            Error::WrongCounts { block: 3 },
+            "block 3 of the image has a wrong count of earlier ones, or unused payload that is not zero",
+        ),
+        (Error::WrongSamples { block: 3 }, "block 3 of the image has wrong samples"),
         (Error::NotAllowed { question: 700 }, "question 700: its kind, node or argument is not allowed"),
         (Error::NoSuchNodeAsked { question: 700, node: 8 }, "question 700: the tree has no node 8"),
         (Error::NoSuchNode { node: 9 }, "the tree has no node 9"),

@@ -1,5 +1,5 @@
--- Document 01's cases, "Twelve checked by hand", with its traps and cheap limits: a call, its
--- inputs, and what comes back, lent lists included.
+-- Document 01's cases, "Twelve checked by hand", with its traps, cheap limits and document 02's
+-- codes: a call, its inputs, and what comes back, lent lists included.
 use mathlib.Core.List.{List, [], _∷_, _++_}
 use Prim.Native.Nat.{ℕ, zero, suc, _*_, _-_}
 use lib.IntN.{ℤ, pos, negsuc}
@@ -41,17 +41,27 @@ T = 0 ∷ 1 ∷ 1 ∷ 1 ∷ 2 ∷ 2 ∷ 4 ∷ []
 abbrev question : ℕ → ℕ → ℤ → List ℤ
 question kind x z = pos kind ∷ pos x ∷ z ∷ []
 
--- T's image, with the first block of R1 and the block of R1's samples as given
-abbrev imageWith : List ℕ → List ℕ → List ℕ
-imageWith string samples =
-    block (1 ∷ 7 ∷ 4 ∷ 5 ∷ []) 17 2112
+-- T's image, with the header, the first block of R1 and the block of R1's samples as given
+abbrev imageWith : List ℕ → List ℕ → List ℕ → List ℕ
+imageWith header string samples =
+    header
     ++ string
     ++ block (0 ∷ 0b11010001 ∷ []) 211 26377
     ++ samples
     ++ block (1 ∷ []) 5 630
 
+-- these blocks as T has them
+abbrev headerT : List ℕ
+headerT = block (1 ∷ 7 ∷ 4 ∷ 5 ∷ []) 17 2112
+
+abbrev stringT : List ℕ
+stringT = block (0 ∷ 0b10010110 ∷ []) 151 18876
+
+abbrev samplesT : List ℕ
+samplesT = block (1 ∷ []) 4 504
+
 imageT : List ℕ
-imageT = imageWith (block (0 ∷ 0b10010110 ∷ []) 151 18876) (block (1 ∷ []) 4 504)
+imageT = imageWith headerT stringT samplesT
 
 -- the parents of a path of n + 1 nodes: 0, 1, .., n
 path : ℕ → List ℕ
@@ -115,11 +125,18 @@ cases =
     ∷ split [] 0 0 [] [] gives counts 0 0 with ([] ∷ [] ∷ [])
     -- the listing of T
     ∷ list imageT 1 (room 15) gives counts 7 0 with ((1 ∷ 0 ∷ 2 ∷ 1 ∷ 5 ∷ 2 ∷ 6 ∷ 2 ∷ 3 ∷ 1 ∷ 4 ∷ 1 ∷ 7 ∷ 2 ∷ 9 ∷ []) ∷ [])
-    -- a sample, or a count of earlier ones, that is not the tree's, with the sums made right again
-    ∷ check-image (imageWith (block (0 ∷ 0b10010110 ∷ []) 151 18876) (block (2 ∷ []) 5 630)) gives code 7 place 0 with []
-    ∷ check-image (imageWith (block (1 ∷ 0b10010110 ∷ []) 152 19002) (block (1 ∷ []) 4 504)) gives code 7 place 0 with []
+    -- words of T's image changed, with the sums made right again: the version, m alone, a reserved
+    -- word, an m that the strings do not have, a count of earlier ones, a word after the samples, a
+    -- sample
+    ∷ check-image (imageWith (block (2 ∷ 7 ∷ 4 ∷ 5 ∷ []) 18 2238) stringT samplesT) gives code 11 place 0 with []
+    ∷ check-image (imageWith (block (1 ∷ 7 ∷ 1 ∷ 5 ∷ []) 14 1740) stringT samplesT) gives code 12 place 0 with []
+    ∷ check-image (imageWith (block (1 ∷ 7 ∷ 4 ∷ 5 ∷ 1 ∷ []) 18 2234) stringT samplesT) gives code 12 place 0 with []
+    ∷ check-image (imageWith (block (1 ∷ 7 ∷ 3 ∷ 5 ∷ []) 16 1988) stringT samplesT) gives code 13 place 1 with []
+    ∷ check-image (imageWith headerT (block (1 ∷ 0b10010110 ∷ []) 152 19002) samplesT) gives code 14 place 1 with []
+    ∷ check-image (imageWith headerT stringT (block (1 ∷ 1 ∷ []) 5 629)) gives code 14 place 3 with []
+    ∷ check-image (imageWith headerT stringT (block (2 ∷ []) 5 630)) gives code 15 place 3 with []
     -- a block whose sums are wrong
-    ∷ check-image (imageWith (block (0 ∷ 0b10010110 ∷ []) 151 18876) (block (1 ∷ []) 4 505)) gives code 6 place 3 with []
+    ∷ check-image (imageWith headerT stringT (block (1 ∷ []) 4 505)) gives code 6 place 3 with []
     -- lists of 65,536 and of 65,535 numbers
     ∷ string-of-parents (replicate 65536 0) [] gives code 2 place 0 with ([] ∷ [])
     ∷ string-of-parents (replicate 65535 0) [] gives code 3 place 2 with ([] ∷ [])

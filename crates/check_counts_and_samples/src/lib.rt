@@ -92,7 +92,7 @@ fn full_piece_right(b: &[u8], samples: usize, piece: Piece, k: usize, end: usize
 
 // Has a string `end` ones up to the end of its block number j, which is full, and are the samples
 // right of those in the block?
-fn full_block_right(b: &[u8], samples: usize, bits_block: usize, j: usize, end: usize) -> bool
+pub fn full_block_right(b: &[u8], samples: usize, bits_block: usize, j: usize, end: usize) -> bool
     requires { ⌜ j ≤ 16 ⌝ }
     requires { ⌜ «bits_block» ≤ mostBlock ⌝ }
     requires { ⌜ samples ≤ mostBlock ⌝ }

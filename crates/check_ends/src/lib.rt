@@ -18,7 +18,7 @@ use image_words::word;
 
 // Of the 4,000 bits from byte `at` on, are those after the first `used` zero: the rest of a byte,
 // then whole bytes?
-fn rest_zero(b: &[u8], at: usize, used: usize) -> bool
+pub fn rest_zero(b: &[u8], at: usize, used: usize) -> bool
     requires { ⌜ used ≤ 4000 ⌝ }
     requires { ⌜ at + 500 ≤ length (now b) ⌝ }
     ensures { λ r. ⌜ Decides r (Unused (now (b .entry)) at used) ⌝ }

@@ -23,7 +23,7 @@ use image_words::word;
 
 // Of n bits of R1 from byte `at1` on, which `ones1` ones come before, and n of R0 from `at0` on,
 // which `ones0` come before: is R1 in step with R0 at each of them? Eight bytes at a time.
-fn words_in_step(b: &[u8], at1: usize, at0: usize, n: usize, ones1: usize, ones0: usize) -> bool
+pub fn words_in_step(b: &[u8], at1: usize, at0: usize, n: usize, ones1: usize, ones0: usize) -> bool
     requires { ⌜ length (now b) ≤ 512 * mostBlock ⌝ }
     requires { ⌜ n ≤ 4000 ⌝ }
     requires { ⌜ at1 + (n + 7) / 8 ≤ length (now b) ⌝ }

@@ -4,7 +4,7 @@ use mathlib.Core.List.{List}
 use Prim.Native.Nat.{ℕ, _*_, _≤_}
 use native.Mathlib.Omega.{arith}
 use lib.ListN.{length}
-use Rattle.theory.specs.Stages.{Header, Stages, nodesOf, runsOf}
+use Rattle.theory.specs.Stages.{Header, Stages, versionOf, nodesOf, runsOf}
 use Rattle.image_layout.specs.declared.Layout.{Layout}
 use Rattle.image_layout.specs.Layout.{layoutOf}
 use Rattle.image_layout.specs.Fits.{LaidOut}
@@ -32,10 +32,11 @@ module _ (bytes : List ℕ) (layout : Layout) (laid : layout ≡ layoutOf (nodes
         small = omega arith;
       }
 
-  pub together : Header bytes → StringsPass bytes layout → Stages bytes
-  together h s =
+  pub together : versionOf bytes ≡ 1 → Header bytes → StringsPass bytes layout → Stages bytes
+  together v h s =
       let p = subst (StringsPass bytes) laid s in
       record {
+        version = v;
         header = h;
         ended1 = p .right1 .ended;
         ended0 = p .right0 .ended;

@@ -3,32 +3,33 @@
 use mathlib.Core.Path.{_≡_, refl, sym, ap, _∙_}
 use mathlib.Core.Bool.{Bool, true, false, cond, not, _||_}
 use mathlib.Core.List.{List, [], _∷_, _++_}
-use Prim.Native.Nat.{ℕ, zero, suc, _+_, _*_, _≤_}
+use mathlib.Core.Logic.{_↔_}
+use Prim.Native.Nat.{ℕ, zero, suc, _+_, _*_, _/_, _%_, _≤_}
 use native.Mathlib.Omega.{arith}
-use borrow.Author.Tests.{not-false}
-use lib.Dec.{ltb}
+use borrow.Author.Tests.{not-false, le-ltb, lt-ltb, ltb-false}
+use lib.Dec.{ltb, eqb}
 use lib.ListN.{length, take}
 use Rattle.meaning.specs.Blocks.{sumStart, cut, blocksIn, block, same, wrongFrom, wrongBlock}
-use Rattle.meaning.specs.Image.{isImage}
+use Rattle.meaning.specs.Image.{headerWord, isImage}
+use Rattle.meaning.specs.Faults.{isHeader, areStrings, wrongKept, wrongSample}
 use Rattle.meaning.specs.declared.Answer.{Answer}
 use Rattle.meaning.specs.declared.Refusal.{Refusal}
 use Rattle.meaning.specs.declared.Verdict.{Verdict}
 use Rattle.meaning.specs.declared.Verdict.the-variants as Verdict
 use Rattle.meaning.specs.Answers.{Row, _at_when_, Outcome, refusedWith, cameTo, firstHolding, unlessRefused, settle}
-use Rattle.meaning.specs.Tests.{wrongSize, checkRows}
+use Rattle.meaning.specs.Tests.{outside, wrongSize, checkRows}
 use Rattle.theory.specs.Rows.{NoneHolds}
 use Rattle.theory.specs.Layout.{AreBytes}
 use Rattle.theory.specs.Stages.{Stages}
-use Rattle.theory.proofs.Settled.{or-first, or-neither, first-none, first-here, first-on, none-first, settle-append}
+use Rattle.theory.proofs.Codes.{neither, not-unequal, not-outside}
+use Rattle.theory.proofs.Settled.{or-first, or-neither, unequal, equal, first-none, first-here, first-on, none-first, settle-append}
 use Rattle.theory.proofs.Stages.{image-stages, stages-image}
+use Rattle.theory.proofs.NoFault.{NoFault, faultless}
 use Rattle.image_layout.specs.declared.Layout.{Layout}
 use Rattle.image_found.specs.declared.Checked.{Checked}
 use Rattle.image_found.specs.declared.Checked.the-variants.{Sound, Refused}
-use Rattle.image_found.specs.Checked.{checked, foundBy, layoutIn}
-
-not-true : (t : Bool) → (t ≡ true → ⊥) → t ≡ false
-not-true true h = absurd (h refl)
-not-true false h = refl
+use Rattle.image_found.specs.declared.Fault.the-variants.{Version, Header, Strings, Counts, Samples}
+use Rattle.image_found.specs.Checked.{checked, foundBy, layoutIn, numbered, faultIn}
 
 -- ---- the lowest wrong block is a block, or the number of blocks
 
@@ -62,39 +63,114 @@ module _ (bytes : List ℕ) where
   abbrev sums : Row
   sums = 6 at wrongBlock bytes when ltb (wrongBlock bytes) (blocksIn bytes)
 
-  abbrev tree : Row
-  tree = 7 at 0 when not (isImage bytes)
+  abbrev version : Row
+  version = 11 at 0 when not (eqb (headerWord bytes 0) 1)
 
-  by-rows : (v : Verdict) → firstHolding (size ∷ sums ∷ tree ∷ []) ≡ v → foundBy v (layoutIn bytes) ≡ checked bytes
+  abbrev header : Row
+  header = 12 at 0 when not (isHeader bytes)
+
+  abbrev strings : Row
+  strings = 13 at 1 when not (areStrings bytes)
+
+  abbrev kept : Row
+  kept = 14 at wrongKept bytes when ltb 0 (wrongKept bytes)
+
+  abbrev samples : Row
+  samples = 15 at wrongSample bytes when ltb 0 (wrongSample bytes)
+
+  -- the rows from a code on
+  abbrev from14 : List Row
+  from14 = kept ∷ samples ∷ []
+
+  abbrev from13 : List Row
+  from13 = strings ∷ from14
+
+  abbrev from12 : List Row
+  from12 = header ∷ from13
+
+  abbrev from11 : List Row
+  from11 = version ∷ from12
+
+  by-rows : (v : Verdict) → firstHolding (size ∷ sums ∷ from11) ≡ v → foundBy v (layoutIn bytes) ≡ checked bytes
   unfolding checked checkRows
   by-rows v e = sym (ap (λ u. foundBy u (layoutIn bytes)) e)
 
   pub found-size : wrongSize bytes ≡ true → refused 2 0 ≡ checked bytes
-  found-size e = by-rows _ (first-here size (sums ∷ tree ∷ []) (or-first (wrongSize bytes) false e))
+  found-size e = by-rows _ (first-here size (sums ∷ from11) (or-first (wrongSize bytes) false e))
 
   module _ (right : wrongSize bytes ≡ false) where
-    sized : firstHolding (size ∷ sums ∷ tree ∷ []) ≡ firstHolding (sums ∷ tree ∷ [])
-    sized = first-on size (sums ∷ tree ∷ []) (or-neither (wrongSize bytes) false right refl)
+    sized : firstHolding (size ∷ sums ∷ from11) ≡ firstHolding (sums ∷ from11)
+    sized = first-on size (sums ∷ from11) (or-neither (wrongSize bytes) false right refl)
 
     pub found-block : ltb (wrongBlock bytes) (blocksIn bytes) ≡ true → refused 6 (wrongBlock bytes) ≡ checked bytes
-    found-block e = by-rows _ (sized ∙ first-here sums (tree ∷ []) e)
+    found-block e = by-rows _ (sized ∙ first-here sums from11 e)
 
     module _ (whole : ltb (wrongBlock bytes) (blocksIn bytes) ≡ false) where
-      summed : firstHolding (size ∷ sums ∷ tree ∷ []) ≡ firstHolding (tree ∷ [])
-      summed = sized ∙ first-on sums (tree ∷ []) whole
+      summed : firstHolding (size ∷ sums ∷ from11) ≡ firstHolding from11
+      summed = sized ∙ first-on sums from11 whole
 
-      pub found-other : isImage bytes ≡ false → refused 7 0 ≡ checked bytes
-      found-other e = by-rows _ (summed ∙ first-here tree [] (ap not e))
+      pub found-version : (headerWord bytes 0 ≡ 1 → ⊥) → Refused (numbered Version) ≡ checked bytes
+      found-version e = by-rows _ (summed ∙ first-here version from12 (unequal (headerWord bytes 0) 1 e))
 
-      pub found-sound : isImage bytes ≡ true → Sound (layoutIn bytes) ≡ checked bytes
-      found-sound e = by-rows Verdict.Passed (summed ∙ first-on tree [] (ap not e) ∙ first-none)
+      module _ (known : headerWord bytes 0 ≡ 1) where
+        versioned : firstHolding (size ∷ sums ∷ from11) ≡ firstHolding from12
+        versioned = summed ∙ first-on version from12 (equal (headerWord bytes 0) 1 known)
 
-  -- the stages decide the last test
-  pub staged : AreBytes bytes → length bytes ≡ 512 * blocksIn bytes → blocksIn bytes ≤ wrongBlock bytes → Stages bytes → isImage bytes ≡ true
-  staged are whole sums s = stages-image bytes are whole (omega (arith, wrong-most bytes)) s
+        pub found-header : isHeader bytes ≡ false → Refused (numbered Header) ≡ checked bytes
+        found-header e = by-rows _ (versioned ∙ first-here header from13 (ap not e))
 
-  pub unstaged : (Stages bytes → ⊥) → isImage bytes ≡ false
-  unstaged h = not-true (isImage bytes) (λ e. h (image-stages bytes e))
+        module _ (headed : isHeader bytes ≡ true) where
+          head-right : firstHolding (size ∷ sums ∷ from11) ≡ firstHolding from13
+          head-right = versioned ∙ first-on header from13 (ap not headed)
+
+          -- no other row holds of an image
+          pub found-sound : NoFault bytes → Sound (layoutIn bytes) ≡ checked bytes
+          found-sound f =
+              by-rows Verdict.Passed
+              (head-right
+              ∙ first-on strings from14 (ap not (f .strings))
+              ∙ first-on kept (samples ∷ []) (le-ltb 0 (wrongKept bytes) (omega (arith, f .kept)))
+              ∙ first-on samples [] (le-ltb 0 (wrongSample bytes) (omega (arith, f .samples)))
+              ∙ first-none)
+
+          -- and one does of other bytes
+          pub found-fault : (NoFault bytes → ⊥) → Refused (numbered (faultIn bytes)) ≡ checked bytes
+          unfolding faultIn
+          found-fault wrong = by-strings (areStrings bytes) refl
+            where
+              by-samples : (n : ℕ) → wrongSample bytes ≡ n → areStrings bytes ≡ true → ltb 0 (wrongKept bytes) ≡ false
+                  → Refused (numbered (Samples (wrongSample bytes))) ≡ checked bytes
+              by-samples zero e s k =
+                  absurd (wrong (record { version = known; header = headed; strings = s; kept = let l = ltb-false 0 (wrongKept bytes) k in omega arith; samples = e }))
+              by-samples (suc n) e s k =
+                  by-rows _
+                  (head-right ∙ first-on strings from14 (ap not s) ∙ first-on kept (samples ∷ []) k
+                  ∙ first-here samples [] (lt-ltb 0 (wrongSample bytes) (omega arith)))
+
+              by-kept : (t : Bool) → ltb 0 (wrongKept bytes) ≡ t → areStrings bytes ≡ true
+                  → Refused (numbered (cond t (Counts (wrongKept bytes)) (Samples (wrongSample bytes)))) ≡ checked bytes
+              by-kept true e s = by-rows _ (head-right ∙ first-on strings from14 (ap not s) ∙ first-here kept (samples ∷ []) e)
+              by-kept false e s = by-samples (wrongSample bytes) refl s e
+
+              by-strings : (t : Bool) → areStrings bytes ≡ t
+                  → Refused (numbered (cond (areStrings bytes) (cond (ltb 0 (wrongKept bytes)) (Counts (wrongKept bytes)) (Samples (wrongSample bytes))) Strings)) ≡ checked bytes
+              by-strings true e =
+                  ap (λ t. Refused (numbered (cond t (cond (ltb 0 (wrongKept bytes)) (Counts (wrongKept bytes)) (Samples (wrongSample bytes))) Strings))) e
+                  ∙ by-kept (ltb 0 (wrongKept bytes)) refl e
+              by-strings false e =
+                  ap (λ t. Refused (numbered (cond t (cond (ltb 0 (wrongKept bytes)) (Counts (wrongKept bytes)) (Samples (wrongSample bytes))) Strings))) e
+                  ∙ by-rows _ (head-right ∙ first-here strings from14 (ap not e))
+
+  -- the stages decide whether any does
+  module _ (whole : length bytes ≡ 512 * blocksIn bytes) (some : 5 ≤ blocksIn bytes) (sums : blocksIn bytes ≤ wrongBlock bytes) where
+    without-fault : (isImage bytes ≡ true) ↔ NoFault bytes
+    without-fault = faultless bytes whole (omega (arith, wrong-most bytes)) (omega arith)
+
+    pub staged : AreBytes bytes → Stages bytes → NoFault bytes
+    staged are s = without-fault .0 (stages-image bytes are whole (omega (arith, wrong-most bytes)) s)
+
+    pub unstaged : (Stages bytes → ⊥) → NoFault bytes → ⊥
+    unstaged h f = h (image-stages bytes (without-fault .1 f))
 
 -- ---- what a call comes to that checks first
 
@@ -103,7 +179,7 @@ module _ {A : Type 0} (before : A) (rest : List Row) (a : Answer) (after : A) wh
   comesTo (Sound i) = settle before rest a after
   comesTo (Refused r) = cameTo (refusedWith (r .code) (r .place)) before
 
-  -- by the first three rows of a reading; w, what else may have a wrong size, does not hold
+  -- by the first rows of a reading; w, what else may have a wrong size, does not hold
   pub rows-checked : (bytes : List ℕ) (w : Bool) → w ≡ false → settle before (checkRows bytes w ++ rest) a after ≡ comesTo (checked bytes)
   unfolding checked
   rows-checked bytes w f =
@@ -123,9 +199,24 @@ pub record IsSound (bytes : List ℕ) (i : Layout) : Type 0 where
 clash : {X : Type 0} {i : Layout} {r : Refusal} → Refused r ≡ Sound i → X
 clash e = let z : _≡_ {A = ℕ} 0 1 = cc in absurd (omega arith)
 
-held-image : (bytes : List ℕ) → NoneHolds (checkRows bytes false) → isImage bytes ≡ true
+-- bytes that no row of the check refuses are an image
+pub held-image : (bytes : List ℕ) → NoneHolds (checkRows bytes false) → isImage bytes ≡ true
 unfolding checkRows
-held-image bytes n = not-false (isImage bytes) (n .1 .1 .0)
+held-image bytes n =
+    let size = neither (not (eqb (length bytes % 512) 0)) (outside 5 53 (length bytes / 512)) (neither (wrongSize bytes) false (n .0) .0) in
+    let rows = n .1 .1 in
+    let kept = ltb-false 0 (wrongKept bytes) (rows .1 .1 .1 .0) in
+    let samples = ltb-false 0 (wrongSample bytes) (rows .1 .1 .1 .1 .0) in
+    let whole = not-unequal (length bytes % 512) 0 (size .0) in
+    let some = not-outside 5 53 (length bytes / 512) (size .1) .0 in
+    without-fault bytes (omega arith) some (ltb-false (wrongBlock bytes) (blocksIn bytes) (n .1 .0)) .1
+    (record {
+      version = not-unequal (headerWord bytes 0) 1 (rows .0);
+      header = not-false (isHeader bytes) (rows .1 .0);
+      strings = not-false (areStrings bytes) (rows .1 .1 .0);
+      kept = omega arith;
+      samples = omega arith;
+    })
 
 pub sound-known : (bytes : List ℕ) (i : Layout) → checked bytes ≡ Sound i → IsSound bytes i
 unfolding checked

@@ -1,18 +1,23 @@
--- What the whole check of an image finds, and document 01's numbers for it ("Numbers a caller gets
--- back").
-use mathlib.Core.Bool.{false}
+-- What the whole check of an image finds, and the documents' numbers for it (document 01, "Numbers
+-- a caller gets back", and document 02, item 1).
+use mathlib.Core.Bool.{false, cond}
 use mathlib.Core.List.{List}
 use Prim.Native.Nat.{ℕ}
+use lib.Dec.{ltb}
 use Rattle.meaning.specs.declared.Answer.{Answer}
+use Rattle.meaning.specs.declared.Refusal.{Refusal}
 use Rattle.meaning.specs.declared.Verdict.{Verdict}
 use Rattle.meaning.specs.declared.Verdict.the-variants as Verdict
 use Rattle.meaning.specs.Answers.{refusedWith, counts, firstHolding}
 use Rattle.meaning.specs.Tests.{checkRows}
+use Rattle.meaning.specs.Faults.{areStrings, wrongKept, wrongSample}
 use Rattle.theory.specs.Stages.{nodesOf, runsOf}
 use Rattle.image_layout.specs.Layout.{layoutOf}
 use Rattle.image_layout.specs.declared.Layout.{Layout}
 use Rattle.image_found.specs.declared.Checked.{Checked}
 use Rattle.image_found.specs.declared.Checked.the-variants.{Sound, Refused}
+use Rattle.image_found.specs.declared.Fault.{Fault}
+use Rattle.image_found.specs.declared.Fault.the-variants.{Version, Header, Strings, Counts, Samples}
 
 -- the layout by n and m as the header has them
 abbrev pub layoutIn : List ℕ → Layout
@@ -31,3 +36,16 @@ checked bytes = foundBy (firstHolding (checkRows bytes false)) (layoutIn bytes)
 abbrev pub answered : Checked → Answer
 answered (Sound i) = counts (i .nodes) (i .runs)
 answered (Refused r) = refusedWith (r .code) (r .place)
+
+-- code and place of what is wrong: for the strings the first block of R1
+abbrev pub numbered : Fault → Refusal
+numbered Version = record { code = 11; place = 0 }
+numbered Header = record { code = 12; place = 0 }
+numbered Strings = record { code = 13; place = 1 }
+numbered (Counts b) = record { code = 14; place = b }
+numbered (Samples b) = record { code = 15; place = b }
+
+-- what is wrong where version and header are right: the strings, else the counts and unused
+-- payload, else the samples
+unfoldable pub faultIn : List ℕ → Fault
+faultIn bytes = cond (areStrings bytes) (cond (ltb 0 (wrongKept bytes)) (Counts (wrongKept bytes)) (Samples (wrongSample bytes))) Strings

@@ -1,2 +1,5 @@
 pub mod Passing
 pub mod Promises
+pub mod SomeTree
+pub mod Faults
+pub mod FaultyBlocks

@@ -5,25 +5,26 @@ use mathlib.Core.Bool.{Bool, false, not}
 use mathlib.Core.List.{List, _++_}
 use Prim.Native.Nat.{ℕ, _/_, _%_, _≤_}
 use native.Mathlib.Omega.{arith}
-use borrow.Author.Tests.{le-ltb, not-false}
+use borrow.Author.Tests.{le-ltb}
 use lib.Dec.{eqb}
 use lib.ListN.{length}
 use Rattle.meaning.specs.Trees.{Tree, nodes}
 use Rattle.meaning.specs.Blocks.{blocksIn, wrongBlock}
-use Rattle.meaning.specs.Image.{image, isImage}
+use Rattle.meaning.specs.Image.{image}
 use Rattle.meaning.specs.declared.Answer.{Answer}
 use Rattle.meaning.specs.Answers.{Row, cameTo, settle}
 use Rattle.meaning.specs.Tests.{outside, wrongSize, checkRows}
 use Rattle.calls.specs.Calls.{checkImage}
 use Rattle.theory.specs.Rows.{NoneHolds}
 use Rattle.theory.proofs.Settled.{or-neither, between, equal}
-use Rattle.theory.proofs.Codes.{neither, Others, none-held}
+use Rattle.theory.proofs.Codes.{neither, Others, check-refuses, none-held}
 use Rattle.theory.proofs.TreeImages.{is-image}
+use Rattle.theory.proofs.NoFault.{image-faultless}
 use Rattle.theorems.proofs.Promises.{image-has-blocks}
 use Rattle.image_found.specs.declared.Checked.{Checked}
 use Rattle.image_found.specs.declared.Checked.the-variants.{Sound, Refused}
 use Rattle.image_found.specs.Checked.{checked, layoutIn, answered}
-use Rattle.image_found.proofs.Finding.{comesTo, rows-checked, found-sound}
+use Rattle.image_found.proofs.Finding.{comesTo, rows-checked, found-sound, held-image}
 use Rattle.call_check_image.proofs.Calling.{image-answered}
 
 -- w, what else that is lent may have a wrong size, does not hold
@@ -32,10 +33,11 @@ module _ (t : Tree) (h : nodes t ≤ 65535) where
   tree-sound =
       let x = image t in
       let b = image-has-blocks t h in
+      let f = image-faultless t h in
       found-sound x
       (or-neither (not (eqb (length x % 512) 0)) (outside 5 53 (length x / 512)) (equal (length x % 512) 0 (omega (arith, b .0))) (between 5 53 (length x / 512) (b .1) (b .2)))
       (le-ltb (wrongBlock x) (blocksIn x) (omega (arith, b .3)))
-      (is-image x .1 (t, h, refl))
+      (f .version) (f .header) f
 
   pub tree-passed : (w : Bool) → w ≡ false → {A : Type 0} (before : A) (rest : List Row) (a : Answer) (after : A)
       → settle before (checkRows (image t) w ++ rest) a after ≡ settle before rest a after
@@ -57,5 +59,9 @@ pub rows-done : {A : Type 0} (before : A) (a : Answer) (after : A) (bytes : List
     → (w ≡ false) × ((t : Tree) × (nodes t ≤ 65535) × (image t ≡ bytes)) × NoneHolds rest
 unfolding checkRows
 rows-done before a after bytes w rest o e =
-    let h = none-held before a after 0 (checkRows bytes w ++ rest) (omega arith, (omega arith, (omega arith, o))) e .0 in
-    (neither (wrongSize bytes) w (h .0) .1, is-image bytes .0 (not-false (isImage bytes) (h .1 .1 .0)), h .1 .1 .1)
+    let h = none-held before a after 0 (checkRows bytes w ++ rest) (check-refuses bytes w rest o) e .0 in
+    let size = neither (wrongSize bytes) w (h .0) in
+    let rows = h .1 .1 in
+    let passed : NoneHolds (checkRows bytes false) =
+    (or-neither (wrongSize bytes) false (size .0) refl, (h .1 .0, (rows .0, (rows .1 .0, (rows .1 .1 .0, (rows .1 .1 .1 .0, (rows .1 .1 .1 .1 .0, tt))))))) in
+    (size .1, is-image bytes .0 (held-image bytes passed), rows .1 .1 .1 .1 .1)

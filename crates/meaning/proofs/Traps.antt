@@ -9,11 +9,13 @@ use lib.ListN.{take, drop, replicate, set}
 use Rattle.meaning.specs.Strings.{O, I, stringOf}
 use Rattle.meaning.specs.Scan.{one, place}
 use Rattle.meaning.specs.Blocks.{words}
-use Rattle.meaning.specs.Image.{imageOfString, isImage}
+use Rattle.meaning.specs.Image.{imageOfString, headerWord, stringIn, isImage}
+use Rattle.meaning.specs.Faults.{isHeader, areStrings, wrongKept, wrongSample}
 use Rattle.meaning.specs.Questions.{siblingAt}
 use Rattle.meaning.specs.Listing.{listing, deep}
-use Rattle.meaning.specs.Answers.{_at_when_, cameTo, refusedWith, counts, settle}
-use Rattle.meaning.specs.Tests.{wrongCount}
+use Rattle.meaning.specs.Answers.{_at_when_, cameTo, refusedWith, counts, firstHolding, settle}
+use Rattle.meaning.specs.Tests.{wrongCount, checkRows}
+use Rattle.meaning.specs.declared.Verdict.the-variants.{Refused}
 
 abbrev T : List ℕ
 T = 0 ∷ 1 ∷ 1 ∷ 1 ∷ 2 ∷ 2 ∷ 4 ∷ []
@@ -48,6 +50,38 @@ other-count = refl
 other-sample : isImage (set imageT 1536 2) ≡ false
 unfolding imageT stringOf imageOfString isImage
 other-sample = refl
+
+-- the block that is named: a count, a word after the samples, a sample; a wrong sample is no wrong
+-- count
+count-named : wrongKept (set imageT 512 1) ≡ 1
+unfolding imageT stringOf imageOfString headerWord stringIn wrongKept
+count-named = refl
+
+unused-named : wrongKept (set imageT 1540 1) ≡ 3
+unfolding imageT stringOf imageOfString headerWord stringIn wrongKept
+unused-named = refl
+
+no-count-named : wrongKept (set imageT 1536 2) ≡ 0
+unfolding imageT stringOf imageOfString headerWord stringIn wrongKept
+no-count-named = refl
+
+sample-named : wrongSample (set imageT 1536 2) ≡ 3
+unfolding imageT stringOf imageOfString headerWord stringIn wrongSample
+sample-named = refl
+
+-- T's header with its first reserved word set, and with one run for seven nodes
+reserved-set : isHeader (set imageT 16 1) ≡ false
+unfolding imageT stringOf imageOfString isHeader
+reserved-set = refl
+
+one-run : isHeader (set imageT 8 1) ≡ false
+unfolding imageT stringOf imageOfString isHeader
+one-run = refl
+
+-- strings before counts: with both wrong, whatever the sums are
+strings-first : firstHolding (drop 2 (checkRows (set (set imageT 516 0) 512 1) false)) ≡ Refused (record { code = 13; place = 1 })
+unfolding imageT stringOf imageOfString headerWord isHeader areStrings wrongKept wrongSample checkRows firstHolding
+strings-first = refl
 
 -- the sibling before node 4 of T
 one-to-the-left : siblingAt T 4 (negsuc 0) ≡ 3

@@ -38,13 +38,16 @@ sampleBlocks ss = (length ss + 125) / 126
 
 -- ---- The image: the header, R1, R0, samples of R1, samples of R0; each starts a new block.
 
+-- the blocks of one string, and those of its samples
+abbrev pub stringPart : List Bit → List (List ℕ)
+stringPart r = stringPayloads (cut (stringBlocks (length r)) 4000 r) 0
+
+abbrev pub samplePart : List Bit → List (List ℕ)
+samplePart r = map wordBytes (cut (sampleBlocks (samples r)) 126 (samples r))
+
 unfoldable pub payloads : List Bit → List Bit → List (List ℕ)
 unfolding stringPayloads samples wordBytes cut
-payloads r1 r0 =
-    stringPayloads (cut (stringBlocks (length r1)) 4000 r1) 0
-    ++ stringPayloads (cut (stringBlocks (length r0)) 4000 r0) 0
-    ++ map wordBytes (cut (sampleBlocks (samples r1)) 126 (samples r1))
-    ++ map wordBytes (cut (sampleBlocks (samples r0)) 126 (samples r0))
+payloads r1 r0 = stringPart r1 ++ stringPart r0 ++ samplePart r1 ++ samplePart r0
 
 -- words 1 (the version), n, m, number of blocks
 unfoldable pub header : List Bit → List Bit → List ℕ
@@ -62,6 +65,22 @@ imageOfString bs = imageOfParts (R1 bs) (R0 bs)
 unfoldable pub image : Tree → List ℕ
 unfolding imageOfString lbs
 image t = imageOfString (lbs t)
+
+-- ---- The layout by n and m: which block each part begins at, and how many there are.
+
+-- the blocks that the samples of m ones take
+abbrev pub blocksOfSamples : ℕ → ℕ
+blocksOfSamples m = ((m + 63) / 64 + 125) / 126
+
+-- R1 begins at block 1
+abbrev pub r0Block : ℕ → ℕ
+r0Block n = 1 + stringBlocks n
+
+abbrev pub r1Samples : ℕ → ℕ
+r1Samples n = r0Block n + stringBlocks (n + 1)
+
+abbrev pub blocksNeeded : ℕ → ℕ → ℕ
+blocksNeeded n m = r1Samples n + (blocksOfSamples m + blocksOfSamples m)
 
 -- ---- Reading an image.
 

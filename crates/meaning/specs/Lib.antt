@@ -6,6 +6,7 @@ pub mod Scan
 pub mod Packs
 pub mod Blocks
 pub mod Image
+pub mod Faults
 pub mod Places
 pub mod Questions
 pub mod Listing

@@ -1,5 +1,5 @@
 -- Tests that several calls make, in the order of document 01's table ("Numbers a caller gets
--- back").
+-- back"), with document 02's item 1 where code 7 was.
 use mathlib.Core.Bool.{Bool, not, _||_}
 use mathlib.Core.List.{List, [], _∷_}
 use Prim.Native.Nat.{ℕ, _+_, _*_, _/_, _%_}
@@ -10,7 +10,8 @@ use Rattle.meaning.specs.Bytes.{bitsFrom, bytesFor, leftover}
 use Rattle.meaning.specs.Scan.{many, place}
 use Rattle.meaning.specs.Packs.{sizes}
 use Rattle.meaning.specs.Blocks.{blocksIn, wrongBlock}
-use Rattle.meaning.specs.Image.{isImage}
+use Rattle.meaning.specs.Image.{headerWord}
+use Rattle.meaning.specs.Faults.{isHeader, areStrings, wrongKept, wrongSample}
 use Rattle.meaning.specs.Answers.{Row, _at_when_}
 
 -- ---- Sizes: code 2.
@@ -51,7 +52,11 @@ unfoldable pub checkRows : List ℕ → Bool → List Row
 checkRows image w =
     2 at 0 when (wrongSize image || w)
     ∷ 6 at wrongBlock image when ltb (wrongBlock image) (blocksIn image)
-    ∷ 7 at 0 when not (isImage image)
+    ∷ 11 at 0 when not (eqb (headerWord image 0) 1)
+    ∷ 12 at 0 when not (isHeader image)
+    ∷ 13 at 1 when not (areStrings image)
+    ∷ 14 at wrongKept image when ltb 0 (wrongKept image)
+    ∷ 15 at wrongSample image when ltb 0 (wrongSample image)
     ∷ []
 
 -- a pack of k trees that is to be split or joined to, its sizes being right

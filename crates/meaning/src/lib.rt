@@ -23,7 +23,7 @@ pub enum Verdict {
     Refused(Refusal),
 }
 
-// Document 01's table, by code.
+// The table of codes, by code. 7 is retired: its number is never used again.
 pub const NO_ROOM: u32 = 1;
 
 pub const WRONG_SIZE: u32 = 2;
@@ -36,13 +36,21 @@ pub const LEFTOVER_SET: u32 = 5;
 
 pub const WRONG_SUMS: u32 = 6;
 
-pub const NOT_IMAGE: u32 = 7;
-
 pub const NOT_ALLOWED: u32 = 8;
 
 pub const TOO_DEEP: u32 = 9;
 
 pub const OTHER_TREES: u32 = 10;
+
+pub const OTHER_VERSION: u32 = 11;
+
+pub const WRONG_HEADER: u32 = 12;
+
+pub const WRONG_STRINGS: u32 = 13;
+
+pub const WRONG_COUNTS: u32 = 14;
+
+pub const WRONG_SAMPLES: u32 = 15;
 
 pub const MOST_NODES: usize = 65535;
 

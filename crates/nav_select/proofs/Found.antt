@@ -30,17 +30,20 @@ module _ (bytes : List ℕ) (first n i more j k : ℕ) (block : i / 4000 ≡ j) 
       ∙ ap (position (stringIn bytes first 0 (4000 * (j + 1)))) number
       ∙ same-place (stringIn bytes first) (λ a b p. stringIn-cut bytes first a b p) (length-stringIn bytes first) 0 n (4000 * (j + 1)) k (omega arith) h inside
 
+-- before a one that k others come before
+pub one-start : (bytes : List ℕ) (first n k x : ℕ) → k < onesTo bytes first n → x ≡ position (stringIn bytes first 0 n) (k + 1)
+    → (1 ≤ x) × (x ≤ n) × (onesTo bytes first (x - 1) ≡ k)
+one-start bytes first n k x h e =
+    let r = stringIn bytes first 0 n in
+    let o = one-there r k h in
+    let i = o .0 in
+    let l : i < n = omega (arith, o .1, length-stringIn bytes first 0 n) in
+    let f : x ≡ suc i = e ∙ ap (position r) (let g : k + 1 ≡ suc (ones (take i r)) = omega (arith, o .3) in g) ∙ place-of-one r i (o .1) (o .2) in
+    (omega arith, omega arith, ap (onesTo bytes first) (let g : x - 1 ≡ i = omega arith in g) ∙ sym (onesTo-take bytes first i n (omega arith)) ∙ o .3)
+
 -- sample number q is the position of a one that 64 q others come before
 pub sample-start : (bytes : List ℕ) (from first n m q x : ℕ) → m ≡ onesTo bytes first n → Sampled bytes from m (stringIn bytes first 0 n) → 64 * q < m
     → x ≡ sampleIn bytes from q → (1 ≤ x) × (x ≤ n) × (onesTo bytes first (x - 1) ≡ 64 * q)
 sample-start bytes from first n m q x e s h w =
     let r = stringIn bytes first 0 n in
-    let o = one-there r (64 * q) (omega arith) in
-    let i = o .0 in
-    let l : i < n = omega (arith, o .1, length-stringIn bytes first 0 n) in
-    let f : x ≡ suc i =
-    w ∙ sampled-word bytes from m r s q (omega arith)
-    ∙ sample-at r q (omega (arith, length-samples r))
-    ∙ ap (position r) (let g : 64 * q + 1 ≡ suc (ones (take i r)) = omega (arith, o .3) in g)
-    ∙ place-of-one r i (o .1) (o .2) in
-    (omega arith, omega arith, ap (onesTo bytes first) (let g : x - 1 ≡ i = omega arith in g) ∙ sym (onesTo-take bytes first i n (omega arith)) ∙ o .3)
+    one-start bytes first n (64 * q) x (omega arith) (w ∙ sampled-word bytes from m r s q (omega arith) ∙ sample-at r q (omega (arith, length-samples r)))

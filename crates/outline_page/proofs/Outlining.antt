@@ -1,7 +1,7 @@
 -- What is printed for an image, from what the check found and what the listing of the root gave.
 use mathlib.Core.Path.{_≡_, refl, sym, ap, ap₂, _∙_, subst}
 use mathlib.Core.Bool.{false}
-use mathlib.Core.List.{List, _++_}
+use mathlib.Core.List.{List, [], _++_}
 use Prim.Native.Nat.{ℕ, zero, suc, _*_, _/_, _≤_, _<_}
 use native.Mathlib.Omega.{arith}
 use borrow.Author.Tests.{lt-ltb, le-ltb, eq-eqb, ne-eqb}
@@ -19,7 +19,7 @@ use Rattle.meaning.specs.Tests.{checkRows}
 use Rattle.calls.specs.Calls.{checkImage, listImage}
 use Rattle.theory.proofs.Stages.{image-stages}
 use Rattle.image_layout.specs.declared.Layout.{Layout}
-use Rattle.theory.proofs.Codes.{first-other}
+use Rattle.theory.proofs.Codes.{check-refuses, first-other}
 use Rattle.image_found.specs.declared.Checked.{Checked}
 use Rattle.image_found.specs.declared.Checked.the-variants.{Sound, Refused}
 use Rattle.image_found.specs.Checked.{answered, checked, foundBy, layoutIn}
@@ -48,7 +48,7 @@ checked-coded bytes r e = by-verdict (firstHolding (checkRows bytes false)) refl
     by-verdict Verdict.Passed f g z = clash g
     by-verdict (Verdict.Refused x) f g z =
         let same : x ≡ r = cc in
-        first-other 0 (checkRows bytes false) (omega arith, (omega arith, (omega arith, tt))) f (ap (λ y. y .code) same ∙ z)
+        first-other 0 (checkRows bytes false) (check-refuses bytes false [] tt) f (ap (λ y. y .code) same ∙ z)
 
 -- ---- what is printed
 

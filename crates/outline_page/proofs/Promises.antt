@@ -12,7 +12,8 @@ use Rattle.meaning.specs.Trees.{Tree, Node, nodes, depth}
 use Rattle.meaning.specs.Parents.{parents}
 use Rattle.meaning.specs.Strings.{stringOf}
 use Rattle.meaning.specs.Blocks.{wrongBlock}
-use Rattle.meaning.specs.Image.{imageOfString, image, isImage, parentsIn}
+use Rattle.meaning.specs.Image.{imageOfString, image, headerWord, parentsIn}
+use Rattle.meaning.specs.Faults.{isHeader, areStrings, wrongKept, wrongSample}
 use Rattle.meaning.specs.Questions.{answer}
 use Rattle.meaning.specs.Listing.{listing, deep}
 use Rattle.meaning.specs.Answers.{refusedWith, firstHolding, settle, written}
@@ -136,5 +137,7 @@ only-the-first-too-deep t few deeper = too-deep t few deeper
 -- ---- the example
 
 pub tree-t : P.TreeT
-unfolding outlineOf printed heading nodeLines nodeLine refusal decimal digits checkRows checkImage listImage firstHolding settle stringOf imageOfString isImage parentsIn wrongBlock listing deep answer
+unfolding outlineOf printed heading nodeLines nodeLine refusal decimal digits checkRows checkImage listImage firstHolding settle
+    stringOf imageOfString headerWord isHeader areStrings wrongKept wrongSample
+    parentsIn wrongBlock listing deep answer
 tree-t = refl

@@ -14,6 +14,8 @@ use Rattle.theorems.proofs.Promises as Theory
 use Rattle.string_promises.proofs.Promises as Strings
 use Rattle.pack_promises.proofs.Promises as Packs
 use Rattle.image_promises.proofs.Promises as Images
+use Rattle.image_promises.proofs.Faults as Faults
+use Rattle.image_promises.proofs.FaultyBlocks as Blocks
 use Rattle.outline_page.proofs.Promises as Outline
 use Rattle.parlaqen.specs.Promises as P
 use Rattle.parlaqen.specs.Promises.{OneOf}
@@ -127,6 +129,12 @@ kept = record {
   accepted-is-sealed = Images.accepted-is-sealed;
   one-image-per-tree = Images.one-image-per-tree;
   checked-first = Images.checked-first;
+  version-named = Faults.version-named;
+  header-named = Faults.header-named;
+  strings-named = Faults.strings-named;
+  counts-named = Blocks.counts-named;
+  samples-named = Blocks.samples-named;
+  one-of-five = Faults.one-of-five;
   own-children = Theory.own-children;
   own-parent = Theory.own-parent;
   own-answer = Theory.own-answers;
@@ -156,6 +164,7 @@ kept = record {
   pack-never-before = Packs.never-named-before;
   join-never-before = Packs.join-never-before;
   checked-by-found = Images.checked-by-found;
+  refused-by-fault = Faults.refused-by-fault;
   read-by-end = Strings.read-by-end;
   split-by-held = Packs.split-by-held;
   join-by-held = Packs.join-by-held;

@@ -15,6 +15,7 @@ use Rattle.meaning.specs.Scan.{one, many, place}
 use Rattle.meaning.specs.Packs.{sizes}
 use Rattle.meaning.specs.Blocks.{wrongBlock}
 use Rattle.meaning.specs.Image.{parentsIn}
+use Rattle.meaning.specs.Faults.{wrongKept, wrongSample}
 use Rattle.meaning.specs.Questions.{questions, notAllowed}
 use Rattle.meaning.specs.Listing.{listing, deep}
 use Rattle.meaning.specs.Answers.{Outcome, cameTo}
@@ -23,20 +24,25 @@ use Rattle.theorems.specs.Promises as Theory
 use Rattle.string_promises.specs.Promises as Strings
 use Rattle.pack_promises.specs.Promises as Packs
 use Rattle.image_promises.specs.Promises as Images
+use Rattle.image_promises.specs.Faults as Faults
 use Rattle.outline_page.specs.Promises as Outline
 
 -- ---- Demand 1. A `Call` is one of the nine with its inputs, whatever they are; `does` is what it
 -- comes to.
 
--- the refusals that document 01's table has for a call: each code with its place
+-- the refusals that the documents' table has for a call: each code with its place
 abbrev pub listed : Call → List (ℕ × ℕ)
 listed (string-of-parents ps out) = (2, 0) ∷ (3, badEntry ps) ∷ (1, 0) ∷ []
 listed (parents-of-string bytes L out) = (2, 0) ∷ (5, 0) ∷ (4, place one (bitsFrom bytes 0 L)) ∷ (1, 0) ∷ []
 listed (image-of-parents ps out) = (2, 0) ∷ (3, badEntry ps) ∷ (1, 0) ∷ []
-listed (parents-of-image image out) = (2, 0) ∷ (6, wrongBlock image) ∷ (7, 0) ∷ (1, 0) ∷ []
-listed (check-image image) = (2, 0) ∷ (6, wrongBlock image) ∷ (7, 0) ∷ []
-listed (ask image qs out) = (2, 0) ∷ (6, wrongBlock image) ∷ (7, 0) ∷ (8, notAllowed (length (parentsIn image)) (questions qs) 0) ∷ (1, 0) ∷ []
-listed (list image x out) = (2, 0) ∷ (6, wrongBlock image) ∷ (7, 0) ∷ (8, 1) ∷ (9, deep (listing 65 (parentsIn image) x 0)) ∷ (1, 0) ∷ []
+listed (parents-of-image image out) = (2, 0) ∷ (6, wrongBlock image) ∷ (11, 0) ∷ (12, 0) ∷ (13, 1) ∷ (14, wrongKept image) ∷ (15, wrongSample image) ∷ (1, 0) ∷ []
+listed (check-image image) = (2, 0) ∷ (6, wrongBlock image) ∷ (11, 0) ∷ (12, 0) ∷ (13, 1) ∷ (14, wrongKept image) ∷ (15, wrongSample image) ∷ []
+listed (ask image qs out) =
+    (2, 0) ∷ (6, wrongBlock image) ∷ (11, 0) ∷ (12, 0) ∷ (13, 1) ∷ (14, wrongKept image) ∷ (15, wrongSample image)
+    ∷ (8, notAllowed (length (parentsIn image)) (questions qs) 0) ∷ (1, 0) ∷ []
+listed (list image x out) =
+    (2, 0) ∷ (6, wrongBlock image) ∷ (11, 0) ∷ (12, 0) ∷ (13, 1) ∷ (14, wrongKept image) ∷ (15, wrongSample image)
+    ∷ (8, 1) ∷ (9, deep (listing 65 (parentsIn image) x 0)) ∷ (1, 0) ∷ []
 listed (split bytes L k starts sizes′) = (2, 0) ∷ (5, 0) ∷ (4, place many (bitsFrom bytes 0 L)) ∷ (10, length (sizes (bitsFrom bytes 0 L))) ∷ (1, 0) ∷ []
 listed (join pack L k ps) = (2, 0) ∷ (5, 0) ∷ (4, place many (bitsFrom pack 0 L)) ∷ (10, length (sizes (bitsFrom pack 0 L))) ∷ (3, badEntry ps) ∷ (1, 0) ∷ []
 
@@ -137,6 +143,19 @@ pub record Promises : Type 1 where
   pub one-image-per-tree : Images.OneImagePerTree
   -- every public reading of an image makes the whole check first
   pub checked-first : Images.CheckedFirst
+  -- document 02, item 1: what the refusal of an image names whose size and sums are right. 11: a
+  -- version other than 1
+  pub version-named : Faults.VersionNamed
+  -- 12: header numbers, taken together, or a reserved word that no tree of this image length has
+  pub header-named : Faults.HeaderNamed
+  -- 13: strings that no tree with this n and m gives; the place is the first R1 block
+  pub strings-named : Faults.StringsNamed
+  -- 14: a wrong count of earlier ones or unused payload not zero, with the lowest such block
+  pub counts-named : Faults.CountsNamed
+  -- 15: wrong samples, with the lowest such block
+  pub samples-named : Faults.SamplesNamed
+  -- one of the five, all where 7 was
+  pub one-of-five : Faults.OneOfFive
   -- each navigation answer is the one the tree itself gives
   pub own-children : Theory.OwnChildren
   pub own-parent : Theory.OwnParent
@@ -183,9 +202,10 @@ pub record Promises : Type 1 where
   pub join-never-before : Packs.JoinNeverNamesBefore
   -- For any answer that is an enum a definition gives document 01's number and values for each
   -- case, and a call comes to them:
-  -- what the check finds, the end of a string's tree, what a pack is refused for and what its scan
-  -- finds, what a listing takes
+  -- what the check finds, what is wrong with an image, the end of a string's tree, what a pack is
+  -- refused for and what its scan finds, what a listing takes
   pub checked-by-found : Images.CheckedByFound
+  pub refused-by-fault : Faults.RefusedByFault
   pub read-by-end : Strings.ReadByEnd
   pub split-by-held : Packs.SplitByHeld
   pub join-by-held : Packs.JoinByHeld

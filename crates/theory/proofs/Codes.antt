@@ -13,8 +13,8 @@ use Rattle.meaning.specs.Parents.{parents, badEntry}
 use Rattle.meaning.specs.declared.Answer.{Answer}
 use Rattle.meaning.specs.declared.Refusal.{Refusal}
 use Rattle.meaning.specs.declared.Verdict.the-variants.{Refused}
-use Rattle.meaning.specs.Answers.{Row, firstHolding, settle}
-use Rattle.meaning.specs.Tests.{outside, wrongCount}
+use Rattle.meaning.specs.Answers.{Row, refusedWith, cameTo, firstHolding, settle}
+use Rattle.meaning.specs.Tests.{outside, wrongCount, checkRows}
 use Rattle.theory.specs.Rows.{NoneHolds}
 use Rattle.theory.proofs.Settled.{refusalOf, clash, first-none, first-here, first-on, settle-here, settle-on, settle-none}
 use Rattle.theory.proofs.Parents.{are-parents}
@@ -47,6 +47,11 @@ abbrev pub Others : ℕ → List Row → Type 0
 Others c [] = Unit
 Others c (r ∷ rs) = (r .code ≡ c → ⊥) × Others c rs
 
+-- no row of the check has code 0
+pub check-refuses : (bytes : List ℕ) (w : Bool) (rest : List Row) → Others 0 rest → Others 0 (checkRows bytes w ++ rest)
+unfolding checkRows
+check-refuses bytes w rest o = (omega arith, (omega arith, (omega arith, (omega arith, (omega arith, (omega arith, (omega arith, o)))))))
+
 -- a code that no row has is no refusal's
 pub first-other : (c : ℕ) (rows : List Row) → Others c rows → {x : Refusal} → firstHolding rows ≡ Refused x → x .code ≡ c → ⊥
 first-other c [] o e z = clash (sym e ∙ first-none)
@@ -77,6 +82,11 @@ module _ {A : Type 0} (before : A) (a : Answer) (after : A) (c : ℕ) where
       let q = none-held rs (o .1) (p .1) in
       ((p .0, q .0), q .1)
 
+  -- rows above the one that gave the code do not hold
+  pub upper-none : (upper rest : List Row) → Others c upper → settle before (upper ++ rest) a after .answer .code ≡ c → NoneHolds upper
+  upper-none [] rest o e = tt
+  upper-none (r ∷ rs) rest o e = let p = passed r (rs ++ rest) (o .0) e in (p .0, upper-none rs rest (o .1) (p .1))
+
   -- a code that one row has, and the result has not, is given with that row's place, where that row
   -- holds
   pub row-held : (upper : List Row) (row : Row) (lower : List Row) → Others c upper → Others c lower → (a .code ≡ c → ⊥)
@@ -91,3 +101,9 @@ module _ {A : Type 0} (before : A) (a : Answer) (after : A) (c : ℕ) where
       let p = passed r (rs ++ row ∷ lower) (o .0) e in
       let q = row-held rs row lower (o .1) l n (p .1) in
       (q .0, ap (λ r. r .answer .place) (settle-on before a after r (rs ++ row ∷ lower) (p .0)) ∙ q .1)
+
+-- the first row that holds
+pub settle-first : {A : Type 0} (before : A) (a : Answer) (after : A) (upper : List Row) (row : Row) (lower : List Row) → NoneHolds upper → row .holds ≡ true
+    → settle before (upper ++ row ∷ lower) a after ≡ cameTo (refusedWith (row .code) (row .place)) before
+settle-first before a after [] row lower n h = settle-here before a after row lower h
+settle-first before a after (r ∷ rs) row lower n h = settle-on before a after r (rs ++ row ∷ lower) (n .0) ∙ settle-first before a after rs row lower (n .1) h

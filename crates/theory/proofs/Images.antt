@@ -9,7 +9,7 @@ use lib.Seq.{getD-append-add}
 use Rattle.meaning.specs.Strings.{Bit, ones}
 use Rattle.meaning.specs.Bytes.{bytesOf}
 use Rattle.meaning.specs.Blocks.{le32, wordBytes, sumStart, cut, sealed, wrongBlock}
-use Rattle.meaning.specs.Image.{stringBlocks, stringPayloads, samples, sampleBlocks, payloads, header, imageOfParts}
+use Rattle.meaning.specs.Image.{stringBlocks, samples, sampleBlocks, stringPart, samplePart, payloads, header, imageOfParts}
 use Rattle.theory.specs.Layout.{AreBytes, wordAt, stringWord, sampleWord, startR0, startS1, startS0, total, Laid}
 use Rattle.theory.proofs.Digits.{wordBytes-at, words-bytes}
 use Rattle.theory.proofs.Sealing.{length-cut, length-sealed, sealed-word, sealed-checks, is-sealed-words}
@@ -17,29 +17,26 @@ use Rattle.theory.proofs.Payloads.{ones-le, length-samples, sample-payl
 
 -- ---- the payloads, block by block
 
-abbrev strings : List Bit → List (List ℕ)
-strings r = stringPayloads (cut (stringBlocks (length r)) 4000 r) 0
-
-abbrev tables : List Bit → List (List ℕ)
-tables r = map wordBytes (cut (sampleBlocks (samples r)) 126 (samples r))
-
 -- the payload of block j of a string, and of its samples
-abbrev pub stringPart : List Bit → ℕ → List ℕ
-stringPart r j = le32 (ones (take (4000 * j) r)) ++ bytesOf 500 (take 4000 (drop (4000 * j) r))
+abbrev pub stringPayload : List Bit → ℕ → List ℕ
+stringPayload r j = le32 (ones (take (4000 * j) r)) ++ bytesOf 500 (take 4000 (drop (4000 * j) r))
 
-abbrev samplePart : List Bit → ℕ → List ℕ
-samplePart r j = wordBytes (take 126 (drop (126 * j) (samples r)))
+abbrev pub samplePayload : List Bit → ℕ → List ℕ
+samplePayload r j = wordBytes (take 126 (drop (126 * j) (samples r)))
 
-length-string : (r : List Bit) → length (strings r) ≡ stringBlocks (length r)
+pub length-string : (r : List Bit) → length (stringPart r) ≡ stringBlocks (length r)
 length-string r = length-strings (cut (stringBlocks (length r)) 4000 r) 0 ∙ length-cut (stringBlocks (length r)) 4000 r
 
-length-table : (r : List Bit) → length (tables r) ≡ sampleBlocks (samples r)
+pub length-table : (r : List Bit) → length (samplePart r) ≡ sampleBlocks (samples r)
 length-table r = length-map (cut (sampleBlocks (samples r)) 126 (samples r)) wordBytes ∙ length-cut (sampleBlocks (samples r)) 126 (samples r)
 
-string-part : (r : List Bit) (j : ℕ) → j < stringBlocks (length r) → getD (strings r) j [] ≡ stringPart r j
+pub string-part : (r : List Bit) (j : ℕ) → j < stringBlocks (length r) → getD (stringPart r) j [] ≡ stringPayload r j
 string-part r j h =
     string-payload (stringBlocks (length r)) r 0 j h
     ∙ ap (λ n. le32 n ++ bytesOf 500 (take 4000 (drop (4000 * j) r))) (let e : 0 + ones (take (4000 * j) r) ≡ ones (take (4000 * j) r) = omega arith in e)
+
+pub sample-part : (r : List Bit) (j : ℕ) → j < sampleBlocks (samples r) → getD (samplePart r) j [] ≡ samplePayload r j
+sample-part r j h = sample-payload (sampleBlocks (samples r)) r j h
 
 module _ (h : List ℕ) (x y z v : List (List ℕ)) where
   in-first : (j : ℕ) → j < length x → getD (h ∷ (x ++ y ++ z ++ v)) (1 + j) [] ≡ getD x j []
@@ -80,9 +77,9 @@ module _ (a b : List Bit) where
   length-payloads =
       omega (
         arith,
-        length-append (strings a) (strings b),
-        length-append (strings a ++ strings b) (tables a),
-        length-append (strings a ++ strings b ++ tables a) (tables b),
+        length-append (stringPart a) (stringPart b),
+        length-append (stringPart a ++ stringPart b) (samplePart a),
+        length-append (stringPart a ++ stringPart b ++ samplePart a) (samplePart b),
         length-string a,
         length-string b,
         length-table a,
@@ -100,34 +97,34 @@ module _ (a b : List Bit) where
   pub parts-check : wrongBlock (imageOfParts a b) ≡ total a b
   parts-check = ap wrongBlock image-blocks ∙ sealed-checks blocks ∙ length-blocks
 
-  payload-head : getD blocks 0 [] ≡ wordBytes (1 ∷ length a ∷ ones a ∷ total a b ∷ [])
+  pub payload-head : getD blocks 0 [] ≡ wordBytes (1 ∷ length a ∷ ones a ∷ total a b ∷ [])
   unfolding blocks header
   payload-head = ap (λ n. wordBytes (1 ∷ length a ∷ ones a ∷ n ∷ [])) length-payloads
 
-  pub payload-R1 : (j : ℕ) → 1 + j < startR0 a b → getD blocks (1 + j) [] ≡ stringPart a j
+  pub payload-R1 : (j : ℕ) → 1 + j < startR0 a b → getD blocks (1 + j) [] ≡ stringPayload a j
   unfolding blocks payloads
   payload-R1 j h =
-      in-first (header a b) (strings a) (strings b) (tables a) (tables b) j (omega (arith, length-string a)) ∙ string-part a j (omega arith)
+      in-first (header a b) (stringPart a) (stringPart b) (samplePart a) (samplePart b) j (omega (arith, length-string a)) ∙ string-part a j (omega arith)
 
-  pub payload-R0 : (j : ℕ) → startR0 a b + j < startS1 a b → getD blocks (startR0 a b + j) [] ≡ stringPart b j
+  pub payload-R0 : (j : ℕ) → startR0 a b + j < startS1 a b → getD blocks (startR0 a b + j) [] ≡ stringPayload b j
   unfolding blocks payloads
   payload-R0 j h =
-      in-second (header a b) (strings a) (strings b) (tables a) (tables b) (startR0 a b) j (omega (arith, length-string a)) (omega (arith, length-string b))
+      in-second (header a b) (stringPart a) (stringPart b) (samplePart a) (samplePart b) (startR0 a b) j (omega (arith, length-string a)) (omega (arith, length-string b))
       ∙ string-part b j (omega arith)
 
-  payload-S1 : (j : ℕ) → startS1 a b + j < startS0 a b → getD blocks (startS1 a b + j) [] ≡ samplePart a j
+  payload-S1 : (j : ℕ) → startS1 a b + j < startS0 a b → getD blocks (startS1 a b + j) [] ≡ samplePayload a j
   unfolding blocks payloads
   payload-S1 j h =
-      in-third (header a b) (strings a) (strings b) (tables a) (tables b) (startS1 a b) j
+      in-third (header a b) (stringPart a) (stringPart b) (samplePart a) (samplePart b) (startS1 a b) j
       (omega (arith, length-string a, length-string b)) (omega (arith, length-table a))
-      ∙ sample-payload (sampleBlocks (samples a)) a j (omega arith)
+      ∙ sample-part a j (omega arith)
 
-  payload-S0 : (j : ℕ) → startS0 a b + j < total a b → getD blocks (startS0 a b + j) [] ≡ samplePart b j
+  payload-S0 : (j : ℕ) → startS0 a b + j < total a b → getD blocks (startS0 a b + j) [] ≡ samplePayload b j
   unfolding blocks payloads
   payload-S0 j h =
-      in-fourth (header a b) (strings a) (strings b) (tables a) (tables b) (startS0 a b) j
+      in-fourth (header a b) (stringPart a) (stringPart b) (samplePart a) (samplePart b) (startS0 a b) j
       (omega (arith, length-string a, length-string b, length-table a))
-      ∙ sample-payload (sampleBlocks (samples b)) b j (omega arith)
+      ∙ sample-part b j (omega arith)
 
 -- ---- every word of an image
 

@@ -60,3 +60,15 @@ no-string bytes b = refl
 pub full-more : (bytes : List ℕ) (b j : ℕ) → ones (stringIn bytes b 0 (4000 * j)) + ones (bitsFrom bytes (8 * (512 * (b + j) + 4)) 4000) ≡ ones (stringIn bytes b 0 (4000 * (j + 1)))
 full-more bytes b j =
     block-more bytes b j 4000 (omega arith) ∙ ap (λ n. ones (stringIn bytes b 0 n)) (let e : 4000 * j + 4000 ≡ 4000 * (j + 1) = omega arith in e)
+
+-- the ones counted so far, and those of the next bits, which begin at byte `at`
+pub counted-on : (bytes : List ℕ) (b j k at s r : ℕ) → k ≤ 4000 → at ≡ 512 * (b + j) + 4 → s ≡ ones (stringIn bytes b 0 (4000 * j)) → r ≡ ones (bitsFrom bytes (8 * at) k)
+    → s + r ≡ ones (stringIn bytes b 0 (4000 * j + k))
+counted-on bytes b j k at s r h there e f =
+    ap₂ _+_ e (f ∙ ap (λ p. ones (bitsFrom bytes (8 * p) k)) there) ∙ block-more bytes b j k h
+
+pub counted-full : (bytes : List ℕ) (b j at s r : ℕ) → at ≡ 512 * (b + j) + 4 → s ≡ ones (stringIn bytes b 0 (4000 * j)) → r ≡ ones (bitsFrom bytes (8 * at) 4000)
+    → s + r ≡ ones (stringIn bytes b 0 (4000 * (j + 1)))
+counted-full bytes b j at s r there e f =
+    counted-on bytes b j 4000 at s r (omega arith) there e f
+    ∙ ap (λ n. ones (stringIn bytes b 0 n)) (let e : 4000 * j + 4000 ≡ 4000 * (j + 1) = omega arith in e)

@@ -26,3 +26,7 @@ pub mod Addresses
 pub mod OwnAnswers
 pub mod Depths
 pub mod ByStrings
+pub mod LowestWrong
+pub mod BlockTests
+pub mod Faults
+pub mod NoFault

@@ -71,7 +71,7 @@ unfolding padded
 padded-bytes p h = take-bytes 504 (p ++ replicate 504 0) (append-bytes p (replicate 504 0) h (zero-bytes 504))
 
 -- word w of a padded payload
-padded-word : (p : List ℕ) (w : ℕ) → w < 126 → wordAt (padded p) (4 * w) ≡ wordAt p (4 * w)
+pub padded-word : (p : List ℕ) (w : ℕ) → w < 126 → wordAt (padded p) (4 * w) ≡ wordAt p (4 * w)
 unfolding wordAt
 padded-word p w h =
     omega (arith, padded-at p (4 * w) (omega arith), padded-at p (4 * w + 1) (omega arith), padded-at p (4 * w + 2) (omega arith), padded-at p (4 * w + 3) (omega arith))

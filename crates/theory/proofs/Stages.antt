@@ -9,20 +9,30 @@ use native.Mathlib.Omega.{arith}
 use lib.ListN.{length, getD, take, drop, length-take, length-drop, List·getD-eq-default}
 use lib.Seq.{getD-take, getD-drop, drop-drop}
 use Rattle.meaning.specs.Trees.{Tree, nodes}
-use Rattle.meaning.specs.Strings.{Bit, O, ones, lbs, R1, R0, parentsOf, stringOf, woven}
+use Rattle.meaning.specs.Strings.{Bit, O, I, ones, lbs, R1, R0, parentsOf, stringOf, woven}
 use Rattle.meaning.specs.Bytes.{bit, bitAt, bytesOf}
 use Rattle.meaning.specs.Blocks.{blocksIn, wrongBlock}
 use Rattle.meaning.specs.Image.{stringBlocks, samples, imageOfParts, image, stringIn, parentsIn, isImage}
 use Rattle.theory.specs.Layout.{Runs, AreBytes, wordAt, bitPlace, sampleIn, sampleWord, bitWord, stringWord, startR0, startS1, startS0, total, Laid}
 use Rattle.theory.specs.Stages.{nodesOf, runsOf, blocksOfSamples, r0Block, r1Samples, blocksNeeded, readR1, readR0, Header, Ended, InStep, CountsAndPadding, Sampled, Stages}
+use Rattle.theory.proofs.Bits.{I≢O}
+use Rattle.theory.specs.Faults.{BlockKept}
 use Rattle.theory.proofs.Digits.{same-bits, bytesOf-lt, bytesOf-bit, bytesOf-word, length-bytesOf, take-bytes, drop-bytes, wordAt-take, wordAt-drop}
 use Rattle.theory.proofs.Forms.{length-parents, length-R1, length-R0, string-parents, tree-runs, tree-rule, runs-ones, marks-count}
 use Rattle.theory.proofs.Payloads.{ones-le, length-samples}
+use Rattle.theory.proofs.InBlocks.{stringIn-take}
 use Rattle.theory.proofs.Images.{laid}
 use Rattle.theory.proofs.InStep.{runs-ended, one-missing, in-step}
 use Rattle.theory.proofs.TreeImages.{header-at, length-stringIn, stringIn-at, R1-bit, R0-bit, R1-in, R0-in, image-parts, parents-in, is-image, image-laid}
 
 -- ---- every image passes
+
+-- R1 begins and ends with a one
+two-runs : (a : List Bit) (m : ℕ) → Runs m a → getD a 0 O ≡ I → 2 ≤ length a → 2 ≤ m
+two-runs [] m h f l = absurd (omega arith)
+two-runs (x ∷ a) zero h f l = absurd h
+two-runs (O ∷ a) (suc m) h f l = I≢O (sym f)
+two-runs (I ∷ a) (suc m) h f l = omega (arith, one-missing a m 0 h (omega arith))
 
 module _ (a b : List Bit) (longer : length b ≡ suc (length a)) (most : length a ≤ 65535) where
   made : Laid (imageOfParts a b) a b
@@ -58,18 +68,18 @@ module _ (a b : List Bit) (longer : length b ≡ suc (length a)) (most : length 
     made-marks : runsOf (imageOfParts a b) ≡ m
     made-marks = made .head 2 (omega arith) ∙ runs-ones m a ra
 
-    made-header : Header (imageOfParts a b)
-    made-header =
+    made-header : InStep a b → Header (imageOfParts a b)
+    made-header step =
         let n = made-nodes in
         let k = made-marks in
         let t : total a b ≡ blocksNeeded (length a) m = omega (arith, length-samples a, length-samples b, runs-ones m a ra, runs-ones m b rb) in
         let c : blocksIn (imageOfParts a b) ≡ total a b = omega (arith, made .size) in
         record {
-          version = made .head 0 (omega arith);
           some = omega arith;
           most = omega arith;
           runsSome = omega (arith, one-missing a m 0 ra some);
           runsMost = omega (arith, ones-le a, runs-ones m a ra);
+          runsTwo = λ two. omega (arith, two-runs a m ra (step .first) (omega arith));
           blocks = made .head 3 (omega arith) ∙ sym c;
           needed = c ∙ t ∙ ap₂ blocksNeeded (sym n) (sym k);
           reserved = λ w h g. made .head w g ∙ List·getD-eq-default (1 ∷ length a ∷ ones a ∷ total a b ∷ []) 0 h;
@@ -94,7 +104,8 @@ module _ (a b : List Bit) (longer : length b ≡ suc (length a)) (most : length 
         let p = sym made-R1 in
         let q = sym made-R0 in
         record {
-          header = made-header;
+          version = made .head 0 (omega arith);
+          header = made-header step;
           ended1 = subst₃ (λ n k r. Ended k r) n k p (runs-ended m a some .0 ra);
           ended0 = subst₃ (λ n k r. Ended k r) n k q (runs-ended m b (omega arith) .0 rb);
           inStep = subst₃ (λ n p q. InStep p q) n p q step;
@@ -119,10 +130,10 @@ module _ (t : Tree) (small : nodes t ≤ 65535) where
       subst Stages (sym (image-parts t))
       (parts-stages a b longer-R0 short-R1 (q .0) (q .1) (q .2) (omega (arith, marks-count t, ones-le a)) (in-step (q .0) a b (q .1) (q .2) longer-R0 .0 (tree-rule t)))
 
-  tree-R1 : readR1 (image t) ≡ R1 (lbs t)
+  pub tree-R1 : readR1 (image t) ≡ R1 (lbs t)
   tree-R1 = ap readR1 (image-parts t) ∙ made-R1 (R1 (lbs t)) (R0 (lbs t)) longer-R0 short-R1
 
-  tree-R0 : readR0 (image t) ≡ R0 (lbs t)
+  pub tree-R0 : readR0 (image t) ≡ R0 (lbs t)
   tree-R0 = ap readR0 (image-parts t) ∙ made-R0 (R1 (lbs t)) (R0 (lbs t)) longer-R0 short-R1
 
   tree-nodes : nodesOf (image t) ≡ nodes t
@@ -140,39 +151,62 @@ slice-bit bytes o p h =
     ∙ ap₂ (λ q e. bit (getD bytes q 0 / 2 ^ (7 - e) % 2))
     (let e : o + p / 8 ≡ (8 * o + p) / 8 = omega arith in e) (let e : p % 8 ≡ (8 * o + p) % 8 = omega arith in e)
 
--- the words of n bits that are from block `from` on, with zeros after them
-module _ (bytes : List ℕ) (are : AreBytes bytes) (from n : ℕ) (fits : 512 * (from + stringBlocks n) ≤ length bytes) (k : CountsAndPadding bytes from (stringIn bytes from 0 n)) where
-  bit-is : (i : ℕ) → i < 4000 * stringBlocks n → bitAt bytes (bitPlace from i) ≡ getD (stringIn bytes from 0 n) i O
-  bit-is i h =
+-- the words of block j of n bits that are from block `from` on, with zeros after them
+module _ (bytes : List ℕ) (are : AreBytes bytes) (from n j : ℕ) (has : j < stringBlocks n) (fits : 512 * (from + j + 1) ≤ length bytes) (k : BlockKept bytes from n j) where
+  bit-is : (p : ℕ) → p < 4000 → bitAt bytes (bitPlace from (4000 * j + p)) ≡ getD (stringIn bytes from 0 n) (4000 * j + p) O
+  bit-is p h =
+      let i = 4000 * j + p in
       let l = length-stringIn bytes from 0 n in
       elim (decLt i n) [
         | yes g ↦ ap (λ q. bitAt bytes (bitPlace from q)) (let e : i ≡ 0 + i = omega arith in e) ∙ sym (stringIn-at bytes from 0 n i g)
-        | no g ↦ k .unused i (omega arith) (omega arith) ∙ sym (List·getD-eq-default (stringIn bytes from 0 n) O (omega arith))
+        | no g ↦ k .unused i (omega arith) (omega arith) (omega arith) ∙ sym (List·getD-eq-default (stringIn bytes from 0 n) O (omega arith))
       ]
 
-  part-is : (j : ℕ) → j < stringBlocks n → take 500 (drop (512 * (from + j) + 4) bytes) ≡ bytesOf 500 (drop (4000 * j) (stringIn bytes from 0 n))
-  part-is j h =
+  part-is : take 500 (drop (512 * (from + j) + 4) bytes) ≡ bytesOf 500 (drop (4000 * j) (stringIn bytes from 0 n))
+  part-is =
       let o = 512 * (from + j) + 4 in
       let y = drop (4000 * j) (stringIn bytes from 0 n) in
       let l : length (take 500 (drop o bytes)) ≡ 500 = omega (arith, length-take 500 (drop o bytes), length-drop o bytes) in
       same-bits (take 500 (drop o bytes)) (bytesOf 500 y) (take-bytes 500 (drop o bytes) (drop-bytes o bytes are)) (bytesOf-lt 500 y) (l ∙ sym (length-bytesOf 500 y))
       (λ p g. slice-bit bytes o p (omega arith)
       ∙ ap (bitAt bytes) (let e : 8 * o + p ≡ bitPlace from (4000 * j + p) = omega arith in e)
-      ∙ bit-is (4000 * j + p) (omega arith)
+      ∙ bit-is p (omega arith)
       ∙ sym (getD-drop (4000 * j) (stringIn bytes from 0 n) p O) ∙ sym (bytesOf-bit 500 y p (omega arith)))
 
-  pub word-is : (j w : ℕ) → j < stringBlocks n → w < 126 → wordAt bytes (512 * (from + j) + 4 * w) ≡ stringWord (stringIn bytes from 0 n) j w
+  pub block-word : (w : ℕ) → w < 126 → wordAt bytes (512 * (from + j) + 4 * w) ≡ stringWord (stringIn bytes from 0 n) j w
   unfolding stringWord
-  word-is j zero h g =
+  block-word zero g =
       ap (wordAt bytes) (let e : 512 * (from + j) + 4 * 0 ≡ 512 * (from + j) = omega arith in e)
-      ∙ k .counts j (omega (arith, length-stringIn bytes from 0 n))
-  word-is j (suc w) h g =
+      ∙ k .count ∙ ap (λ r. ones r) (sym (stringIn-take bytes from (4000 * j) n (omega arith)))
+  block-word (suc w) g =
       let o = 512 * (from + j) + 4 in
       let r = stringIn bytes from 0 n in
       ap (wordAt bytes) (let e : 512 * (from + j) + 4 * suc w ≡ o + 4 * w = omega arith in e)
       ∙ sym (wordAt-drop o bytes (4 * w)) ∙ sym (wordAt-take 500 (drop o bytes) (4 * w) (omega arith))
-      ∙ ap (λ x. wordAt x (4 * w)) (part-is j h)
+      ∙ ap (λ x. wordAt x (4 * w)) part-is
       ∙ bytesOf-word 500 (drop (4000 * j) r) w (omega arith) ∙ ap bitWord (drop-drop (32 * w) (4000 * j) r)
+
+-- a string's counts and padding, block by block
+module _ (bytes : List ℕ) (from n : ℕ) where
+  pub kept-blocks : CountsAndPadding bytes from (stringIn bytes from 0 n) → (j : ℕ) → j < stringBlocks n → BlockKept bytes from n j
+  kept-blocks k j h =
+      let l = length-stringIn bytes from 0 n in
+      record {
+        count = k .counts j (omega arith) ∙ ap (λ r. ones r) (stringIn-take bytes from (4000 * j) n (omega arith));
+        unused = λ i a b c. k .unused i (omega arith) (omega arith);
+      }
+
+  pub blocks-kept : ((j : ℕ) → j < stringBlocks n → BlockKept bytes from n j) → CountsAndPadding bytes from (stringIn bytes from 0 n)
+  blocks-kept k =
+      let l = length-stringIn bytes from 0 n in
+      record {
+        counts = λ j h. k j (omega arith) .count ∙ ap (λ r. ones r) (sym (stringIn-take bytes from (4000 * j) n (omega arith)));
+        unused = λ i a b. k (i / 4000) (omega arith) .unused i (omega arith) (omega arith) (omega arith);
+      }
+
+pub word-is : (bytes : List ℕ) → AreBytes bytes → (from n : ℕ) → 512 * (from + stringBlocks n) ≤ length bytes → CountsAndPadding bytes from (stringIn bytes from 0 n)
+    → (j w : ℕ) → j < stringBlocks n → w < 126 → wordAt bytes (512 * (from + j) + 4 * w) ≡ stringWord (stringIn bytes from 0 n) j w
+word-is bytes are from n fits k j w h g = block-word bytes are from n j h (omega arith) (kept-blocks bytes from n k j h) w g
 
 module _ (bytes : List ℕ) (are : AreBytes bytes) (whole : length bytes ≡ 512 * blocksIn bytes) (sums : wrongBlock bytes ≡ blocksIn bytes) (s : Stages bytes) where
   long1 : length (readR1 bytes) ≡ nodesOf bytes
@@ -186,7 +220,7 @@ module _ (bytes : List ℕ) (are : AreBytes bytes) (whole : length bytes ≡ 512
       omega (arith, long1, long0, length-samples (readR1 bytes), length-samples (readR0 bytes), s .ended1 .count, s .ended0 .count, s .header .needed)
 
   head-is : (w : ℕ) → w < 126 → wordAt bytes (4 * w) ≡ getD (1 ∷ length (readR1 bytes) ∷ ones (readR1 bytes) ∷ total (readR1 bytes) (readR0 bytes) ∷ []) w 0
-  head-is zero h = s .header .version
+  head-is zero h = s .version
   head-is (suc zero) h = sym long1
   head-is (suc (suc zero)) h = sym (s .ended1 .count)
   head-is (suc (suc (suc zero))) h = s .header .blocks ∙ sym total-is

@@ -25,7 +25,7 @@ use Rattle.theory.proofs.Forms.{length-parents, length-R1, length-R0, s
 use Rattle.theory.proofs.Digits.{bytesOf-bit, words-at, wordAt-take}
 use Rattle.theory.proofs.Sealing.{padded-at, sealed-at, and-both, same-refl, same-eq}
 use Rattle.theory.proofs.Payloads.{ones-le, length-samples}
-use Rattle.theory.proofs.Images.{stringPart, blocks, image-blocks, length-blocks, parts-size, parts-check, payload-R1, payload-R0, laid, unlaid}
+use Rattle.theory.proofs.Images.{stringPayload, blocks, image-blocks, length-blocks, parts-size, parts-check, payload-R1, payload-R0, laid, unlaid}
 
 -- ---- reading the strings
 
@@ -48,7 +48,7 @@ stringIn-at bytes b i (suc n) (suc k) h =
 
 -- bit i of a string whose blocks begin at block o, and zeros after the last bit
 module _ (ps : List (List ℕ)) (o : ℕ) (r : List Bit)
-    (there : (j : ℕ) → j < stringBlocks (length r) → (o + j < length ps) × (getD ps (o + j) [] ≡ stringPart r j)) where
+    (there : (j : ℕ) → j < stringBlocks (length r) → (o + j < length ps) × (getD ps (o + j) [] ≡ stringPayload r j)) where
   string-bit : (i : ℕ) → i < 4000 * stringBlocks (length r) → bitAt (sealed sumStart ps 0) (bitPlace o i) ≡ getD r i O
   unfolding bitAt
   string-bit i h =
@@ -81,10 +81,10 @@ module _ (ps : List (List ℕ)) (o : ℕ) (r : List Bit)
 
 -- both strings are in the image
 module _ (a b : List Bit) where
-  there1 : (j : ℕ) → j < stringBlocks (length a) → (1 + j < length (blocks a b)) × (getD (blocks a b) (1 + j) [] ≡ stringPart a j)
+  there1 : (j : ℕ) → j < stringBlocks (length a) → (1 + j < length (blocks a b)) × (getD (blocks a b) (1 + j) [] ≡ stringPayload a j)
   there1 j h = (omega (arith, length-blocks a b), payload-R1 a b j (omega arith))
 
-  there0 : (j : ℕ) → j < stringBlocks (length b) → (startR0 a b + j < length (blocks a b)) × (getD (blocks a b) (startR0 a b + j) [] ≡ stringPart b j)
+  there0 : (j : ℕ) → j < stringBlocks (length b) → (startR0 a b + j < length (blocks a b)) × (getD (blocks a b) (startR0 a b + j) [] ≡ stringPayload b j)
   there0 j h = (omega (arith, length-blocks a b), payload-R0 a b j (omega arith))
 
   pub R1-bit : (i : ℕ) → i < 4000 * stringBlocks (length a) → bitAt (imageOfParts a b) (bitPlace 1 i) ≡ getD a i O

@@ -6,3 +6,4 @@ pub mod ByStrings
 pub mod Walks
 pub mod Layout
 pub mod Stages
+pub mod Faults

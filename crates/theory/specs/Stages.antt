@@ -1,5 +1,5 @@
 -- The stages of the check of an image whose blocks all check: what each looks at (document 01,
--- "Image", and code 7).
+-- "Image").
 use mathlib.Core.Path.{_≡_}
 use mathlib.Core.List.{List}
 use Prim.Native.Nat.{ℕ, _+_, _-_, _*_, _/_, _≤_, _<_}
@@ -8,6 +8,7 @@ use Rattle.meaning.specs.Strings.{Bit, O, I, ones}
 use Rattle.meaning.specs.Bytes.{bitAt}
 use Rattle.meaning.specs.Blocks.{blocksIn}
 use Rattle.meaning.specs.Image.{stringBlocks, stringIn}
+pub use Rattle.meaning.specs.Image.{blocksOfSamples, r0Block, r1Samples, blocksNeeded}
 use Rattle.theory.specs.Layout.{wordAt, bitPlace, sampleWord}
 
 -- n and m, as the header has them
@@ -17,21 +18,6 @@ nodesOf bytes = wordAt bytes 4
 abbrev pub runsOf : List ℕ → ℕ
 runsOf bytes = wordAt bytes 8
 
--- the blocks that the samples of m ones take
-abbrev pub blocksOfSamples : ℕ → ℕ
-blocksOfSamples m = ((m + 63) / 64 + 125) / 126
-
--- where the blocks of R0 and of the samples begin, for n nodes and m marks, and how many blocks
--- there are
-abbrev pub r0Block : ℕ → ℕ
-r0Block n = 1 + stringBlocks n
-
-abbrev pub r1Samples : ℕ → ℕ
-r1Samples n = r0Block n + stringBlocks (n + 1)
-
-abbrev pub blocksNeeded : ℕ → ℕ → ℕ
-blocksNeeded n m = r1Samples n + (blocksOfSamples m + blocksOfSamples m)
-
 -- the two strings, as the blocks have them
 abbrev pub readR1 : List ℕ → List Bit
 readR1 bytes = stringIn bytes 1 0 (nodesOf bytes)
@@ -39,13 +25,18 @@ readR1 bytes = stringIn bytes 1 0 (nodesOf bytes)
 abbrev pub readR0 : List ℕ → List Bit
 readR0 bytes = stringIn bytes (r0Block (nodesOf bytes)) 0 (nodesOf bytes + 1)
 
--- the header: version, n, m and the number of blocks, taken together, and the reserved words
+-- the version
+abbrev pub versionOf : List ℕ → ℕ
+versionOf bytes = wordAt bytes 0
+
+-- the header after the version: n, m and the number of blocks, taken together, and the reserved
+-- words
 pub record Header (bytes : List ℕ) : Type 0 where
-  pub version : wordAt bytes 0 ≡ 1
   pub some : 1 ≤ nodesOf bytes
   pub most : nodesOf bytes ≤ 65535
   pub runsSome : 1 ≤ runsOf bytes
   pub runsMost : runsOf bytes ≤ nodesOf bytes
+  pub runsTwo : 2 ≤ nodesOf bytes → 2 ≤ runsOf bytes
   pub blocks : wordAt bytes 12 ≡ blocksIn bytes
   pub needed : blocksIn bytes ≡ blocksNeeded (nodesOf bytes) (runsOf bytes)
   pub reserved : (w : ℕ) → 4 ≤ w → w < 126 → wordAt bytes (4 * w) ≡ 0
@@ -73,6 +64,7 @@ Sampled bytes from m r = (j w : ℕ) → j < blocksOfSamples m → w < 126 → w
 
 -- all stages pass
 pub record Stages (bytes : List ℕ) : Type 0 where
+  pub version : versionOf bytes ≡ 1
   pub header : Header bytes
   pub ended1 : Ended (runsOf bytes) (readR1 bytes)
   pub ended0 : Ended (runsOf bytes) (readR0 bytes)

@@ -4,6 +4,7 @@ mod demand_three;
 mod every_small;
 mod forms;
 mod image_damage;
+mod image_faults;
 mod limits;
 mod pages_and_rooms;
 mod parent_lists;
@@ -51,6 +52,9 @@ pub const GROUPS: &[Group] = &[
     drawn("packs around the limits", strings_and_packs::packs_around_the_limits),
     drawn("images with flipped bits", image_damage::flipped_bits),
     drawn("images edited, sums right again", image_damage::edits_with_right_sums),
+    drawn("images with one fault", image_faults::one_fault),
+    drawn("images with two faults", image_faults::two_faults),
+    fixed("headers of all numbers", image_faults::headers),
     drawn("images of no tree", image_damage::images_of_no_tree),
     drawn("images cut, lengthened, exchanged", image_damage::moved_blocks),
     drawn("demand 3", demand_three::demand_three),

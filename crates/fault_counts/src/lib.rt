@@ -1,0 +1,91 @@
+// The lowest block with a wrong count of earlier ones or unused payload that is not zero.
+ghost use mathlib.Core.Path.{_≡_};
+ghost use Prim.Native.Nat.{_+_, _*_, _≤_};
+ghost use lib.ListN.{length};
+ghost use Rattle.theory.specs.Bounds.{mostBlock};
+ghost use Rattle.meaning.specs.Image.{stringBlocks};
+ghost use Rattle.meaning.specs.Faults.{wrongKept};
+ghost use Rattle.theory.specs.Stages.{blocksOfSamples, nodesOf, runsOf, readR1, readR0, Ended};
+ghost use Rattle.theory.specs.Faults.{LowestWrong, BlockKept, RestKept};
+ghost use Rattle.image_layout.specs.Layout.{layoutOf};
+ghost use Rattle.image_layout.specs.Fits.{LaidOut};
+use bits_count::ones_from;
+use check_ends::rest_zero;
+use check_sample::words_zero;
+use image_layout::Layout;
+use image_layout::bits_at;
+use image_layout::last_block;
+use image_layout::sample_blocks;
+use image_layout::string_blocks;
+use image_words::word;
+
+// The lowest block of a string of n bits that counts the earlier ones wrong, or has bits that are
+// one after the last of the string; 0 if there is none. Only the last block has unused bits.
+fn wrong_in_string(b: &[u8], bits_block: usize, n: usize) -> u32
+    requires { ⌜ 1 ≤ n ⌝ }
+    requires { ⌜ n ≤ 65536 ⌝ }
+    requires { ⌜ 1 ≤ «bits_block» ⌝ }
+    requires { ⌜ «bits_block» ≤ mostBlock ⌝ }
+    requires { ⌜ 512 * («bits_block» + stringBlocks n) ≤ length (now b) ⌝ }
+    ensures { λ r. ⌜ LowestWrong (BlockKept (now (b .entry)) «bits_block» n) «bits_block» (stringBlocks n) r ⌝ }
+{
+    let blocks = string_blocks(n);
+    let mut count: u32 = 0;
+    let mut j: usize = 0;
+    while j < blocks {
+        if word(b, 512 * (bits_block + j)) != count {
+            return (bits_block + j) as u32;
+        }
+        count += ones_from(b, bits_at(bits_block + j), 4000);
+        j += 1;
+    }
+    let last = last_block(n);
+    if rest_zero(b, bits_at(bits_block + last), n - 4000 * last) {
+        return 0;
+    }
+    (bits_block + last) as u32
+}
+
+// The block of samples with a word after the last sample of m ones that is not zero; 0 if there is
+// none. Only the last block has words that are not samples.
+fn wrong_after_samples(b: &[u8], samples: usize, m: u32) -> u32
+    requires { ⌜ 1 ≤ m ⌝ }
+    requires { ⌜ m ≤ 65535 ⌝ }
+    requires { ⌜ samples ≤ mostBlock ⌝ }
+    requires { ⌜ 512 * (samples + blocksOfSamples m) ≤ length (now b) ⌝ }
+    ensures { λ r. ⌜ LowestWrong (RestKept (now (b .entry)) samples m) samples (blocksOfSamples m) r ⌝ }
+{
+    if words_zero(b, samples, m) {
+        return 0;
+    }
+    (samples + sample_blocks(m as usize) - 1) as u32
+}
+
+// The lowest block of an image whose strings are given that counts the earlier ones wrong or has
+// unused payload that is not zero; 0 if there is none.
+pub fn wrong_counts(b: &[u8], layout: Layout) -> u32
+    requires { ⌜ LaidOut (now b) layout ⌝ }
+    requires { ⌜ layout ≡ layoutOf (nodesOf (now b)) (runsOf (now b)) ⌝ }
+    requires { ⌜ 1 ≤ layout .runs ⌝ }
+    requires { ⌜ layout .runs ≤ 65535 ⌝ }
+    requires { ⌜ Ended (runsOf (now b)) (readR1 (now b)) ⌝ }
+    requires { ⌜ Ended (runsOf (now b)) (readR0 (now b)) ⌝ }
+    ensures { λ r. ⌜ r ≡ wrongKept (now (b .entry)) ⌝ }
+{
+    let n = layout.nodes as usize;
+    let m = layout.runs;
+    let r0_block = layout.r0_block as usize;
+    let in_r1 = wrong_in_string(b, 1, n);
+    if in_r1 != 0 {
+        return in_r1;
+    }
+    let in_r0 = wrong_in_string(b, r0_block, n + 1);
+    if in_r0 != 0 {
+        return in_r0;
+    }
+    let after_r1 = wrong_after_samples(b, layout.r1_samples as usize, m);
+    if after_r1 != 0 {
+        return after_r1;
+    }
+    wrong_after_samples(b, layout.r0_samples as usize, m)
+}

@@ -1,0 +1,30 @@
+// What is wrong with an image that the check refuses, its header being right: the second pass, in
+// the order of the codes.
+ghost use mathlib.Core.Path.{_≡_};
+ghost use Rattle.theory.specs.Stages.{Header, nodesOf, runsOf};
+ghost use Rattle.image_layout.specs.Layout.{layoutOf};
+ghost use Rattle.image_layout.specs.Fits.{LaidOut};
+ghost use Rattle.image_found.specs.Checked.{faultIn};
+use fault_counts::wrong_counts;
+use fault_samples::wrong_samples;
+use fault_strings::strings_given;
+use image_found::Fault;
+use image_layout::Layout;
+
+// What is wrong: the strings, else counts or unused payload, else the samples. The first pass has
+// none of this left over, since it stops at the first thing that it finds.
+pub fn what_is_wrong(b: &[u8], layout: Layout) -> Fault
+    requires { ⌜ LaidOut (now b) layout ⌝ }
+    requires { ⌜ layout ≡ layoutOf (nodesOf (now b)) (runsOf (now b)) ⌝ }
+    requires { ⌜ Header (now b) ⌝ }
+    ensures { λ r. ⌜ r ≡ faultIn (now (b .entry)) ⌝ }
+{
+    if !strings_given(b, layout) {
+        return Fault::Strings;
+    }
+    let block = wrong_counts(b, layout);
+    if block != 0 {
+        return Fault::Counts(block);
+    }
+    Fault::Samples(wrong_samples(b, layout))
+}
