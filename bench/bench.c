@@ -3,8 +3,10 @@
  *
  *   bench ROUNDS                                 the tables
  *   bench STORE CALL SHAPE NODES TIMES           that many calls and nothing else, for a profiler or a counter of
- *                                                instructions; STORE is library, plain_o2, faster_o2 or plain_o3,
- *                                                CALL as name_of_call names it
+ *                                                instructions; STORE is library, plain_o2, faster_o2, plain_o3 or
+ *                                                before, CALL as name_of_call names it
+ *
+ * Made with WITH_BEFORE it holds an earlier archive of the library too, with `before_` for `plq_` in the names of its calls.
  *
  * Other work on the machine moves a time by far more than the differences looked for. So the contestants take turns in
  * short samples, a ratio is always one of two samples of the same round, and the table has the median of these ratios,
@@ -31,6 +33,20 @@ enum {
 static const double sample_ns = 4e5; /* a sample takes about so long, or one call on each tree if that is longer */
 
 static const struct store library = {"the library", CALLS_OF(plq_)};
+
+#ifdef WITH_BEFORE
+#define BEFORE(call) extern __typeof__(plq_##call) before_##call
+BEFORE(string_of_parents);
+BEFORE(parents_of_string);
+BEFORE(image_of_parents);
+BEFORE(parents_of_image);
+BEFORE(check_image);
+BEFORE(ask);
+BEFORE(split);
+BEFORE(join);
+BEFORE(list);
+static const struct store before = {"the archive before", CALLS_OF(before_)};
+#endif
 
 /* ---- what is measured ---- */
 
@@ -89,9 +105,23 @@ static const struct contestant {
 #ifdef WITH_SDSL
     {NULL, &sdsl_peer},
 #endif
+#ifdef WITH_BEFORE
+    {&before, NULL},
+#endif
 };
 
 enum { CONTESTANTS = sizeof contestants / sizeof *contestants, LIBRARY = 0, PLAIN_O2 = 1, FASTER_O2 = 2 };
+
+/* An earlier archive may answer otherwise than this one. */
+static int is_earlier(const struct store *store)
+{
+#ifdef WITH_BEFORE
+    return store == &before;
+#else
+    (void)store;
+    return 0;
+#endif
+}
 
 /* One tree with all that the calls are given. */
 struct tree {
@@ -170,7 +200,7 @@ static void make_refused(struct tree *tree, uint64_t seed)
     require(block + 1 == check->nbytes / PLQ_BLOCK_BYTES, "the last block of an image has no samples");
     for (size_t i = 0; i < CONTESTANTS; i++) {
         const struct store *store = contestants[i].store;
-        if (store == NULL) continue;
+        if (store == NULL || is_earlier(store)) continue;
         plq_answer answer = make_call(store, check, &(struct lent){0});
         if (answer.code == PLQ_WRONG_SAMPLES && answer.place == block && answer.first == 0 && answer.second == 0) continue;
         fprintf(stderr, "bench: a sample in block %u is wrong: %s answers %u %u %u %u\n", block, store->name, answer.code, answer.place,
@@ -335,23 +365,26 @@ static struct tree *next_tree(struct bed *bed, const int32_t **questions)
     return tree;
 }
 
+static plq_answer call_once(struct bed *bed, const struct store *store, enum call call, size_t numbers)
+{
+    const int32_t *questions;
+    struct tree *tree = next_tree(bed, &questions);
+    struct request r = tree->requests[call];
+    struct lent lent = bed->lent;
+    if (call == ASK) {
+        r.questions = questions;
+        r.numbers = numbers;
+    }
+    if (call == JOIN) {
+        lent.bytes = tree->pack_to_join;
+        if (r.bits % 8 != 0) lent.bytes[r.bits / 8] &= (uint8_t)(0xFF00 >> r.bits % 8); /* away with what an earlier call put there */
+    }
+    return make_call(store, &r, &lent);
+}
+
 static void call_store(struct bed *bed, const struct store *store, enum call call, size_t numbers, uint32_t times)
 {
-    for (uint32_t i = 0; i < times; i++) {
-        const int32_t *questions;
-        struct tree *tree = next_tree(bed, &questions);
-        struct request r = tree->requests[call];
-        struct lent lent = bed->lent;
-        if (call == ASK) {
-            r.questions = questions;
-            r.numbers = numbers;
-        }
-        if (call == JOIN) {
-            lent.bytes = tree->pack_to_join;
-            if (r.bits % 8 != 0) lent.bytes[r.bits / 8] &= (uint8_t)(0xFF00 >> r.bits % 8); /* away with what an earlier call put there */
-        }
-        make_call(store, &r, &lent);
-    }
+    for (uint32_t i = 0; i < times; i++) call_once(bed, store, call, numbers);
 }
 
 static void call_peer(struct bed *bed, size_t contestant, enum beside beside, uint32_t times)
@@ -368,10 +401,24 @@ static void call_peer(struct bed *bed, size_t contestant, enum beside beside, ui
     }
 }
 
-static int takes_part(size_t contestant, const struct row *row)
+/* Does a store answer the call of a row as the library does, on every tree of a bed? */
+static int answers_alike(struct bed *bed, const struct store *store, const struct row *row)
 {
-    const struct peer *peer = contestants[contestant].peer;
-    return peer == NULL || (row->beside != NOTHING && (row->beside != SAVE || peer->save != NULL));
+    for (uint32_t t = 0; t < bed->kind->turns; t++) {
+        bed->turn = t;
+        plq_answer ours = call_once(bed, &library, row->call, 3 * PLQ_MOST_QUESTIONS);
+        bed->turn = t;
+        plq_answer theirs = call_once(bed, store, row->call, 3 * PLQ_MOST_QUESTIONS);
+        if (memcmp(&ours, &theirs, sizeof ours) != 0) return 0;
+    }
+    return 1;
+}
+
+static int takes_part(struct bed *bed, size_t contestant, const struct row *row)
+{
+    const struct contestant *who = &contestants[contestant];
+    if (who->store != NULL) return !is_earlier(who->store) || answers_alike(bed, who->store, row);
+    return row->beside != NOTHING && (row->beside != SAVE || who->peer->save != NULL);
 }
 
 /* Nanoseconds of one call: the mean of so many on each tree. */
@@ -411,7 +458,7 @@ static void measure(struct bed *bed, const struct row *row, struct times *times)
 {
     uint32_t calls[CONTESTANTS] = {0};
     for (size_t i = 0; i < CONTESTANTS; i++) {
-        times->took_part[i] = takes_part(i, row);
+        times->took_part[i] = takes_part(bed, i, row);
         if (times->took_part[i]) calls[i] = calls_for_a_sample(bed, i, row);
     }
     for (uint32_t round = 0; round < times->rounds; round++)
@@ -582,7 +629,14 @@ static void repeat_call(const char *store, const char *call, const char *shape, 
     static const struct {
         const char *name;
         const struct store *store;
-    } stores[] = {{"library", &library}, {"plain_o2", &plain_o2}, {"faster_o2", &faster_o2}, {"plain_o3", &plain_o3}};
+    } stores[] = {{"library", &library},
+                  {"plain_o2", &plain_o2},
+                  {"faster_o2", &faster_o2},
+                  {"plain_o3", &plain_o3},
+#ifdef WITH_BEFORE
+                  {"before", &before},
+#endif
+    };
     const struct store *the_store = NULL;
     const struct kind *kind = NULL;
     enum call the_call = CALLS;

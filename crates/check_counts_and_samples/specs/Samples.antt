@@ -4,7 +4,7 @@ use mathlib.Core.List.{List}
 use Prim.Native.Nat.{ℕ, _+_, _-_, _*_, _/_, _≤_, _<_}
 use Rattle.meaning.specs.Strings.{I}
 use Rattle.meaning.specs.Bytes.{bitAt}
-use Rattle.theory.specs.Layout.{bitPlace, sampleIn}
+use Rattle.theory.specs.Layout.{bitPlace, sampleIn, wordAt}
 use Rattle.image_string.specs.Parts.{Counted, onesTo}
 use Rattle.check_counts_and_samples.specs.Pieces.{SampledHere}
 
@@ -26,6 +26,15 @@ pub record BlocksRight (bytes : List ℕ) (from m first n : ℕ) : Type 0 where
   pub counted : Counted bytes first n
   pub few : onesTo bytes first (4000 * ((n - 1) / 4000)) ≤ m
   pub sampled : SampledWithin bytes from first 0 (4000 * ((n - 1) / 4000))
+
+-- the first r of those blocks: what they and the block after them count, and their samples; and
+-- there is a reason to stop before the last
+pub record FrontRight (bytes : List ℕ) (from m first n r : ℕ) : Type 0 where
+  pub inside : r ≤ (n - 1) / 4000
+  pub counted : (j : ℕ) → j ≤ r → wordAt bytes (512 * (first + j)) ≡ onesTo bytes first (4000 * j)
+  pub few : onesTo bytes first (4000 * r) ≤ m
+  pub sampled : SampledWithin bytes from first 0 (4000 * r)
+  pub stopped : r < (n - 1) / 4000 → BlocksRight bytes from m first n → ⊥
 
 -- a string with m ones: every sample is the position, from 1, of a one that 64 times its number of
 -- ones come before

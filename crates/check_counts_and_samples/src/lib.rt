@@ -13,7 +13,7 @@ ghost use Rattle.check_sample.specs.Words.{bitsIn};
 ghost use Rattle.check_counts_and_samples.specs.Pieces.{PieceSampled};
 ghost use Rattle.meaning.specs.Image.{stringBlocks, stringIn};
 ghost use Rattle.image_string.specs.Parts.{onesTo};
-ghost use Rattle.check_counts_and_samples.specs.Samples.{SampledWithin, BlockRight, BlocksRight};
+ghost use Rattle.check_counts_and_samples.specs.Samples.{SampledWithin, BlockRight, BlocksRight, FrontRight};
 use bits_count::ones_from;
 use check_sample::Piece;
 use check_sample::sample_right;
@@ -92,7 +92,7 @@ fn full_piece_right(b: &[u8], samples: usize, piece: Piece, k: usize, end: usize
 
 // Has a string `end` ones up to the end of its block number j, which is full, and are the samples
 // right of those in the block?
-pub fn full_block_right(b: &[u8], samples: usize, bits_block: usize, j: usize, end: usize) -> bool
+fn full_block_right(b: &[u8], samples: usize, bits_block: usize, j: usize, end: usize) -> bool
     requires { ⌜ j ≤ 16 ⌝ }
     requires { ⌜ «bits_block» ≤ mostBlock ⌝ }
     requires { ⌜ samples ≤ mostBlock ⌝ }
@@ -110,6 +110,34 @@ pub fn full_block_right(b: &[u8], samples: usize, bits_block: usize, j: usize, e
     full_piece_right(b, samples, piece, word(b, at) as usize, end)
 }
 
+// How many blocks at the front of a string of n bits, m of them ones, have right samples, the block
+// after each counting right: of those before its last, up to the first of which this does not hold.
+pub fn blocks_right(b: &[u8], samples: usize, m: u32, bits_block: usize, n: usize) -> usize
+    requires { ⌜ 1 ≤ n ⌝ }
+    requires { ⌜ n ≤ 65536 ⌝ }
+    requires { ⌜ «bits_block» ≤ mostBlock ⌝ }
+    requires { ⌜ samples ≤ mostBlock ⌝ }
+    requires { ⌜ 512 * («bits_block» + stringBlocks n) ≤ length (now b) ⌝ }
+    requires { ⌜ 512 * (samples + blocksOfSamples m) ≤ length (now b) ⌝ }
+    requires { ⌜ wordAt (now b) (512 * «bits_block») ≡ 0 ⌝ }
+    ensures { λ r. ⌜ FrontRight (now (b .entry)) samples m «bits_block» n r ⌝ }
+{
+    let last = last_block(n);
+    let mut j: usize = 0;
+    while j < last {
+        // the next block has the number of ones up to the end of this one
+        let end = word(b, 512 * (bits_block + j + 1));
+        if m < end {
+            return j;
+        }
+        if !full_block_right(b, samples, bits_block, j, end as usize) {
+            return j;
+        }
+        j += 1;
+    }
+    j
+}
+
 // Of a string of n bits with m ones: do its blocks count right, and are the samples right of the
 // ones in all but its last?
 pub fn full_blocks_right(b: &[u8], samples: usize, m: u32, bits_block: usize, n: usize) -> bool
@@ -124,20 +152,7 @@ pub fn full_blocks_right(b: &[u8], samples: usize, m: u32, bits_block: usize, n:
     if word(b, 512 * bits_block) != 0 {
         return false;
     }
-    let last = last_block(n);
-    let mut j: usize = 0;
-    while j < last {
-        // the next block has the number of ones up to the end of this one
-        let end = word(b, 512 * (bits_block + j + 1));
-        if m < end {
-            return false;
-        }
-        if !full_block_right(b, samples, bits_block, j, end as usize) {
-            return false;
-        }
-        j += 1;
-    }
-    true
+    blocks_right(b, samples, m, bits_block, n) == last_block(n)
 }
 
 // Of a piece that k ones of its string come before, up to `end` ones with its own: are the samples

@@ -6,7 +6,6 @@ ghost use Rattle.image_string.specs.Decides.{Decides};
 ghost use Rattle.check_runs_words.specs.Steps.{StepAt};
 ghost use Rattle.meaning.specs.Image.{stringIn};
 ghost use Rattle.theory.specs.Bounds.{mostBlock, mostOnes};
-ghost use Rattle.theory.specs.Layout.{wordAt};
 ghost use Rattle.theory.specs.Stages.{InStep};
 ghost use Rattle.image_layout.specs.Fits.{LaidOut};
 ghost use Rattle.image_string.specs.Parts.{Counted, onesTo};
@@ -17,13 +16,14 @@ use check_runs_samples::samples_ahead;
 use check_runs_words::bytes_in_step;
 use check_runs_words::word_in_step;
 use image_layout::Layout;
+use image_layout::bits_at;
 use image_layout::last_block;
 use image_string::string_bit;
 use image_words::word;
 
 // Of n bits of R1 from byte `at1` on, which `ones1` ones come before, and n of R0 from `at0` on,
 // which `ones0` come before: is R1 in step with R0 at each of them? Eight bytes at a time.
-pub fn words_in_step(b: &[u8], at1: usize, at0: usize, n: usize, ones1: usize, ones0: usize) -> bool
+fn words_in_step(b: &[u8], at1: usize, at0: usize, n: usize, ones1: usize, ones0: usize) -> bool
     requires { ⌜ length (now b) ≤ 512 * mostBlock ⌝ }
     requires { ⌜ n ≤ 4000 ⌝ }
     requires { ⌜ at1 + (n + 7) / 8 ≤ length (now b) ⌝ }
@@ -48,25 +48,24 @@ pub fn words_in_step(b: &[u8], at1: usize, at0: usize, n: usize, ones1: usize, o
     bytes_in_step(b, at1 + i, at0 + i, n - 8 * i, before1, before0)
 }
 
-// Is R1 in step with R0 in the first n bits of their blocks number j?
-fn block_in_step(b: &[u8], zeros: usize, j: usize, n: usize) -> bool
+// Is R1 in step with R0, whose blocks begin at block `zeros`, in the first n bits of their blocks
+// number j? `ones1` ones of R1 and `ones0` of R0 are in earlier blocks.
+pub fn block_in_step(b: &[u8], zeros: usize, j: usize, n: usize, ones1: u32, ones0: u32) -> bool
     requires { ⌜ n ≤ 4000 ⌝ }
     requires { ⌜ length (now b) ≤ 512 * mostBlock ⌝ }
     requires { ⌜ 512 * (1 + j + 1) ≤ length (now b) ⌝ }
     requires { ⌜ 512 * (zeros + j + 1) ≤ length (now b) ⌝ }
-    requires { ⌜ wordAt (now b) (512 * (1 + j)) ≡ onesTo (now b) 1 (4000 * j) ⌝ }
-    requires { ⌜ wordAt (now b) (512 * (zeros + j)) ≡ onesTo (now b) zeros (4000 * j) ⌝ }
+    requires { ⌜ ones1 ≡ onesTo (now b) 1 (4000 * j) ⌝ }
+    requires { ⌜ ones0 ≡ onesTo (now b) zeros (4000 * j) ⌝ }
     ensures { λ r. ⌜ Decides r (StepWithin (now (b .entry)) zeros (4000 * j) (4000 * j + n)) ⌝ }
 {
-    let at1 = 512 * (1 + j);
-    let at0 = 512 * (zeros + j);
     words_in_step(
         b,
-        at1 + 4,
-        at0 + 4,
+        bits_at(1 + j),
+        bits_at(zeros + j),
         n,
-        word(b, at1) as usize,
-        word(b, at0) as usize,
+        ones1 as usize,
+        ones0 as usize,
     )
 }
 
@@ -82,21 +81,22 @@ fn full_block_in_step(b: &[u8], layout: Layout, j: usize) -> bool
     ensures { λ r. ⌜ Decides r (StepWithin (now (b .entry)) (layout .«r0_block») (4000 * j) (4000 * j + 4000)) ⌝ }
 {
     let zeros = layout.r0_block as usize;
-    let end = word(b, 512 * (1 + j + 1));
+    let end1 = word(b, 512 * (1 + j + 1));
+    let ones0 = word(b, 512 * (zeros + j));
     // then R1 has no more ones after the block than R0 before it
-    if end <= word(b, 512 * (zeros + j)) {
+    if end1 <= ones0 {
         return true;
     }
-    let before = word(b, 512 * (1 + j)) as usize;
+    let ones1 = word(b, 512 * (1 + j));
     // one in 256 ones is looked at
-    if samples_ahead(b, layout, before, end as usize, 4) {
+    if samples_ahead(b, layout, ones1 as usize, end1 as usize, 4) {
         return true;
     }
     // one in 64
-    if samples_ahead(b, layout, before, end as usize, 1) {
+    if samples_ahead(b, layout, ones1 as usize, end1 as usize, 1) {
         return true;
     }
-    block_in_step(b, zeros, j, 4000)
+    block_in_step(b, zeros, j, 4000, ones1, ones0)
 }
 
 // Are the runs of the two strings in step? The first bit of R1 is one, and before its last bit R1
@@ -123,5 +123,7 @@ pub fn in_step(b: &[u8], layout: Layout) -> bool
         }
         j += 1;
     }
-    block_in_step(b, zeros, last, n - 4000 * last)
+    let ones1 = word(b, 512 * (1 + last));
+    let ones0 = word(b, 512 * (zeros + last));
+    block_in_step(b, zeros, last, n - 4000 * last, ones1, ones0)
 }

@@ -13,8 +13,8 @@ use Rattle.theory.specs.Faults.{LowestWrong, none, here, BlockKept, RestKept}
 use Rattle.theory.proofs.Stages.{kept-blocks}
 use Rattle.image_string.specs.Parts.{Counted, Unused}
 use Rattle.image_string.proofs.Blanks.{kept}
-use Rattle.image_string.proofs.Pieces.{CountedTo}
 use Rattle.check_sample.specs.Words.{RestZero}
+use Rattle.fault_strings.specs.Given.{CountKept}
 
 module _ (bytes : List ℕ) (first n : ℕ) (some : 1 ≤ n) where
   abbrev last : ℕ
@@ -27,8 +27,13 @@ module _ (bytes : List ℕ) (first n : ℕ) (some : 1 ≤ n) where
   full-kept : (j : ℕ) → j < last → wordAt bytes (512 * (first + j)) ≡ ones (stringIn bytes first 0 (4000 * j)) → BlockKept bytes first n j
   full-kept j h e = record { count = e; unused = λ i a b c. absurd (omega arith) }
 
-  pub wrong-count : (j r : ℕ) → j < stringBlocks n → CountedTo bytes first j → (wordAt bytes (512 * (first + j)) ≡ ones (stringIn bytes first 0 (4000 * j)) → ⊥) → r ≡ first + j → Lowest r
-  wrong-count j r h counted wrong e = here j h e (λ i l. full-kept i (omega arith) (counted i l)) (λ k. wrong (k .count))
+  pub wrong-count : (r : ℕ) → LowestWrong (CountKept bytes first) first (stringBlocks n) r → (r ≡ 0 → ⊥) → Lowest r
+  wrong-count r (none e all) some-wrong = absurd (some-wrong e)
+  wrong-count r (here j h e below wrong) some-wrong = here j h e (λ i l. full-kept i (omega arith) (below i l)) (λ k. wrong (k .count))
+
+  pub none-miscounted : 1 ≤ first → (r : ℕ) → LowestWrong (CountKept bytes first) first (stringBlocks n) r → r ≡ 0 → Counted bytes first n
+  none-miscounted h r (none e all) z = all
+  none-miscounted h r (here j l e below wrong) z = absurd (omega arith)
 
   pub wrong-rest : (r : ℕ) → Counted bytes first n → (Unused bytes (512 * (first + last) + 4) (n - 4000 * last) → ⊥) → r ≡ first + last → Lowest r
   wrong-rest r counted wrong e =

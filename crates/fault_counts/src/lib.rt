@@ -9,35 +9,29 @@ ghost use Rattle.theory.specs.Stages.{blocksOfSamples, nodesOf, runsOf, readR1,
 ghost use Rattle.theory.specs.Faults.{LowestWrong, BlockKept, RestKept};
 ghost use Rattle.image_layout.specs.Layout.{layoutOf};
 ghost use Rattle.image_layout.specs.Fits.{LaidOut};
-use bits_count::ones_from;
+ghost use Rattle.fault_strings.specs.Given.{CountKept};
 use check_ends::rest_zero;
 use check_sample::words_zero;
+use fault_strings::Miscounted;
 use image_layout::Layout;
 use image_layout::bits_at;
 use image_layout::last_block;
 use image_layout::sample_blocks;
-use image_layout::string_blocks;
-use image_words::word;
 
 // The lowest block of a string of n bits that counts the earlier ones wrong, or has bits that are
-// one after the last of the string; 0 if there is none. Only the last block has unused bits.
-fn wrong_in_string(b: &[u8], bits_block: usize, n: usize) -> u32
+// one after the last of the string; 0 if there is none. `miscounted` is the lowest that counts
+// wrong, or 0; only the last block has unused bits.
+fn wrong_in_string(b: &[u8], bits_block: usize, n: usize, miscounted: u32) -> u32
     requires { ⌜ 1 ≤ n ⌝ }
     requires { ⌜ n ≤ 65536 ⌝ }
     requires { ⌜ 1 ≤ «bits_block» ⌝ }
     requires { ⌜ «bits_block» ≤ mostBlock ⌝ }
     requires { ⌜ 512 * («bits_block» + stringBlocks n) ≤ length (now b) ⌝ }
+    requires { ⌜ LowestWrong (CountKept (now b) «bits_block») «bits_block» (stringBlocks n) miscounted ⌝ }
     ensures { λ r. ⌜ LowestWrong (BlockKept (now (b .entry)) «bits_block» n) «bits_block» (stringBlocks n) r ⌝ }
 {
-    let blocks = string_blocks(n);
-    let mut count: u32 = 0;
-    let mut j: usize = 0;
-    while j < blocks {
-        if word(b, 512 * (bits_block + j)) != count {
-            return (bits_block + j) as u32;
-        }
-        count += ones_from(b, bits_at(bits_block + j), 4000);
-        j += 1;
+    if miscounted != 0 {
+        return miscounted;
     }
     let last = last_block(n);
     if rest_zero(b, bits_at(bits_block + last), n - 4000 * last) {
@@ -62,24 +56,27 @@ fn wrong_after_samples(b: &[u8], samples: usize, m: u32) -> u32
 }
 
 // The lowest block of an image whose strings are given that counts the earlier ones wrong or has
-// unused payload that is not zero; 0 if there is none.
-pub fn wrong_counts(b: &[u8], layout: Layout) -> u32
+// unused payload that is not zero; 0 if there is none. Which block of each string counts wrong was
+// found with the strings.
+pub fn wrong_counts(b: &[u8], layout: Layout, miscounted: Miscounted) -> u32
     requires { ⌜ LaidOut (now b) layout ⌝ }
     requires { ⌜ layout ≡ layoutOf (nodesOf (now b)) (runsOf (now b)) ⌝ }
     requires { ⌜ 1 ≤ layout .runs ⌝ }
     requires { ⌜ layout .runs ≤ 65535 ⌝ }
     requires { ⌜ Ended (runsOf (now b)) (readR1 (now b)) ⌝ }
     requires { ⌜ Ended (runsOf (now b)) (readR0 (now b)) ⌝ }
+    requires { ⌜ LowestWrong (CountKept (now b) 1) 1 (stringBlocks (layout .nodes)) (miscounted .«in_r1») ⌝ }
+    requires { ⌜ LowestWrong (CountKept (now b) (layout .«r0_block»)) (layout .«r0_block») (stringBlocks (layout .nodes + 1)) (miscounted .«in_r0») ⌝ }
     ensures { λ r. ⌜ r ≡ wrongKept (now (b .entry)) ⌝ }
 {
     let n = layout.nodes as usize;
     let m = layout.runs;
     let r0_block = layout.r0_block as usize;
-    let in_r1 = wrong_in_string(b, 1, n);
+    let in_r1 = wrong_in_string(b, 1, n, miscounted.in_r1);
     if in_r1 != 0 {
         return in_r1;
     }
-    let in_r0 = wrong_in_string(b, r0_block, n + 1);
+    let in_r0 = wrong_in_string(b, r0_block, n + 1, miscounted.in_r0);
     if in_r0 != 0 {
         return in_r0;
     }

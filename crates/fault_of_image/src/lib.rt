@@ -7,7 +7,8 @@ ghost use Rattle.image_layout.specs.Fits.{LaidOut};
 ghost use Rattle.image_found.specs.Checked.{faultIn};
 use fault_counts::wrong_counts;
 use fault_samples::wrong_samples;
-use fault_strings::strings_given;
+use fault_strings::StringsFound;
+use fault_strings::find_strings;
 use image_found::Fault;
 use image_layout::Layout;
 
@@ -19,10 +20,11 @@ pub fn what_is_wrong(b: &[u8], layout: Layout) -> Fault
     requires { ⌜ Header (now b) ⌝ }
     ensures { λ r. ⌜ r ≡ faultIn (now (b .entry)) ⌝ }
 {
-    if !strings_given(b, layout) {
+    let strings = find_strings(b, layout);
+    let StringsFound::Given(miscounted) = strings else {
         return Fault::Strings;
-    }
-    let block = wrong_counts(b, layout);
+    };
+    let block = wrong_counts(b, layout, miscounted);
     if block != 0 {
         return Fault::Counts(block);
     }

@@ -1,6 +1,6 @@
 // The lowest block of an image with a wrong sample, where all but the samples is right.
 ghost use mathlib.Core.Path.{_≡_};
-ghost use Prim.Native.Nat.{ℕ, _+_, _-_, _*_, _/_, _≤_, _<_};
+ghost use Prim.Native.Nat.{ℕ, _+_, _*_, _≤_, _<_};
 ghost use lib.ListN.{length};
 ghost use Rattle.theory.specs.Bounds.{mostBlock};
 ghost use Rattle.meaning.specs.Strings.{ones};
@@ -10,40 +10,12 @@ ghost use Rattle.theory.specs.Stages.{blocksOfSamples, nodesOf, runsOf, CountsA
 ghost use Rattle.theory.specs.Faults.{LowestWrong, RestKept, BlockSampled};
 ghost use Rattle.image_layout.specs.Layout.{layoutOf};
 ghost use Rattle.image_layout.specs.Fits.{LaidOut};
-ghost use Rattle.image_string.specs.Parts.{onesTo};
-ghost use Rattle.check_counts_and_samples.specs.Samples.{SampledWithin};
 ghost use Rattle.fault_samples.specs.AllBut.{AllButSamples};
-use check_counts_and_samples::full_block_right;
+use check_counts_and_samples::blocks_right;
 use image_layout::Layout;
-use image_layout::last_block;
 use image_layout::sample_at;
 use image_words::word;
 use nav_select::select_after;
-
-// How many blocks at the front of a string of n bits, m of them ones, have right samples: of those
-// before its last, up to the first that has a wrong one.
-fn blocks_sampled(b: &[u8], samples: usize, m: u32, bits_block: usize, n: usize) -> usize
-    requires { ⌜ 1 ≤ n ⌝ }
-    requires { ⌜ n ≤ 65536 ⌝ }
-    requires { ⌜ m ≡ onesTo (now b) «bits_block» n ⌝ }
-    requires { ⌜ «bits_block» ≤ mostBlock ⌝ }
-    requires { ⌜ samples ≤ mostBlock ⌝ }
-    requires { ⌜ 512 * («bits_block» + stringBlocks n) ≤ length (now b) ⌝ }
-    requires { ⌜ 512 * (samples + blocksOfSamples m) ≤ length (now b) ⌝ }
-    requires { ⌜ CountsAndPadding (now b) «bits_block» (stringIn (now b) «bits_block» 0 n) ⌝ }
-    ensures { λ r. ⌜ (r ≤ (n - 1) / 4000) × SampledWithin (now (b .entry)) samples «bits_block» 0 (4000 * r) ⌝ }
-{
-    let last = last_block(n);
-    let mut j: usize = 0;
-    while j < last {
-        let end = word(b, 512 * (bits_block + j + 1)) as usize;
-        if !full_block_right(b, samples, bits_block, j, end) {
-            return j;
-        }
-        j += 1;
-    }
-    j
-}
 
 // The lowest block of the samples of a string with m ones that has a wrong one; 0 if there is none.
 // In the first block of the string that has a wrong one, each sample's one is looked for from that
@@ -63,7 +35,7 @@ fn wrong_in_samples(b: &[u8], samples: usize, m: u32, bits_block: usize, n: usiz
     ensures { λ r. ⌜ LowestWrong (BlockSampled (now (b .entry)) samples (stringIn (now (b .entry)) «bits_block» 0 n)) samples (blocksOfSamples m) r ⌝ }
 {
     let count = (m as usize + 63) / 64;
-    let j = blocks_sampled(b, samples, m, bits_block, n);
+    let j = blocks_right(b, samples, m, bits_block, n);
     // the bits before that block, and then before the one of the last sample; the ones among them
     let mut i = 4000 * j;
     let mut passed = word(b, 512 * (bits_block + j)) as usize;

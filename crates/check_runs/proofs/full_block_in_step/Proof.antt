@@ -54,11 +54,11 @@ mul-word-3 c = search needs
 word-requires-3 : tie.Need-word-requires-3
 word-requires-3 c κs = search needs
 
-cast-before : tie.Need-cast-before
-cast-before c = search needs
-
 cast-samples-ahead : tie.Need-cast-samples-ahead
 cast-samples-ahead c = search needs
+
+cast-samples-ahead-2 : tie.Need-cast-samples-ahead-2
+cast-samples-ahead-2 c = search needs
 
 samples-ahead-requires : tie.Need-samples-ahead-requires
 samples-ahead-requires c κs =
@@ -91,8 +91,11 @@ module _ (c : tie.After-word3) where
 returns-2 : tie.Need-returns-2
 returns-2 c = by-samples (c .before .before) 4 (told (c .before .samples-ahead .result) _ (c .before .samples-ahead .ensures) (c .if2 .taken))
 
-cast-samples-ahead-2 : tie.Need-cast-samples-ahead-2
-cast-samples-ahead-2 c = search needs
+cast-samples-ahead-3 : tie.Need-cast-samples-ahead-3
+cast-samples-ahead-3 c = search needs
+
+cast-samples-ahead-4 : tie.Need-cast-samples-ahead-4
+cast-samples-ahead-4 c = search needs
 
 samples-ahead-requires-2 : tie.Need-samples-ahead-requires-2
 samples-ahead-requires-2 c κs =
@@ -108,9 +111,12 @@ returns-3 c = by-samples (c .before .before .before .before) 1 (told (c .before 
 
 block-in-step-requires : tie.Need-block-in-step-requires
 block-in-step-requires c κs =
-    let s = c .before .before .before .before .before .before .before .before .before .before in
+    let w = c .before .before .before .before in
+    let s = w .before .before .before .before .before .before in
     let j = s .args .j in
-    (omega arith, (omega arith, (omega arith, (omega arith, (s .pre .1 .1 .1 .0 j (omega arith), s .pre .1 .1 .1 .1 .0 j (omega arith))))))
+    let count1 = w .word3 .ensures ∙ s .pre .1 .1 .1 .0 j (omega arith) in
+    let count0 = w .before .before .word2 .ensures ∙ s .pre .1 .1 .1 .1 .0 j (omega arith) in
+    (omega arith, (omega arith, (omega arith, (omega arith, (count1, count0)))))
 
 returns-4 : tie.Need-returns-4
 returns-4 c = search needs
@@ -131,11 +137,12 @@ full-block-in-step-spec =
     add-word-4
     mul-word-3
     word-requires-3
-    cast-before
     cast-samples-ahead
+    cast-samples-ahead-2
     samples-ahead-requires
     returns-2
-    cast-samples-ahead-2
+    cast-samples-ahead-3
+    cast-samples-ahead-4
     samples-ahead-requires-2
     returns-3
     block-in-step-requires

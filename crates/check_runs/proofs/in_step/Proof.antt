@@ -1,9 +1,9 @@
 -- `check_runs::in_step` meets its contract.
-use mathlib.Core.Path.{sym, ap, _∙_}
-use Prim.Native.Nat.{_+_, _-_, _*_, _/_, _≤_, _<_}
+use mathlib.Core.Path.{_≡_, sym, ap, _∙_}
+use Prim.Native.Nat.{_+_, _-_, _*_, _/_, _≤_}
 use native.Mathlib.Omega.{arith}
 use borrow.Author.Needs.{needs}
-use Rattle.meaning.specs.Image.{stringBlocks, stringIn}
+use Rattle.meaning.specs.Image.{stringIn}
 use Rattle.theory.specs.Layout.{wordAt}
 use Rattle.theory.specs.Stages.{InStep}
 use Rattle.image_string.specs.Parts.{onesTo}
@@ -70,35 +70,66 @@ loop-again c =
       λ p h g. within-join (λ q. onesTo b 1 q ≤ onesTo b z q) 0 (4000 * j) (4000 * j + 4000) (c .before .before .before .loop .inv .1) this p h (omega arith),
     )
 
+-- what the last block of each string counts
+counts : (c : tie.After-word2 Inv-loop μ-loop)
+    → let f = c .before .before in
+    let last = f .before .before .last-block .result in
+    let a = f .before .before .before .before .before .before .before .before .args in
+    (c .before .word .result ≡ onesTo (a .b .now) 1 (4000 * last)) × (c .word2 .result ≡ onesTo (a .b .now) (a .layout .«r0_block») (4000 * last))
+counts c =
+    let f = c .before .before in
+    let s = f .before .before .before .before .before .before .before .before in
+    let b = s .args .b .now in
+    let zeros = s .args .layout .«r0_block» in
+    let last = f .before .before .last-block .ensures in (
+      c .before .word .ensures ∙ ap (λ k. wordAt b (512 * (1 + k))) last ∙ s .pre .1 .1 .0 _ (omega arith) ∙ ap (λ k. onesTo b 1 (4000 * k)) (sym last),
+      c .word2 .ensures ∙ ap (λ k. wordAt b (512 * (zeros + k))) last ∙ s .pre .1 .1 .1 .0 _ (omega arith) ∙ ap (λ k. onesTo b zeros (4000 * k)) (sym last),
+    )
+
+add-word : tie.Need-add-word Inv-loop μ-loop
+add-word c = omega (arith, c .before .before .last-block .ensures)
+
+mul-word : tie.Need-mul-word Inv-loop μ-loop
+mul-word c = omega (arith, c .before .before .last-block .ensures)
+
+word-requires : tie.Need-word-requires Inv-loop μ-loop
+word-requires c κs = omega (arith, c .before .before .last-block .ensures)
+
+add-word-2 : tie.Need-add-word-2 Inv-loop μ-loop
+add-word-2 c = omega (arith, c .before .before .before .last-block .ensures)
+
+mul-word-2 : tie.Need-mul-word-2 Inv-loop μ-loop
+mul-word-2 c = omega (arith, c .before .before .before .last-block .ensures)
+
+word-requires-2 : tie.Need-word-requires-2 Inv-loop μ-loop
+word-requires-2 c κs = omega (arith, c .before .before .before .last-block .ensures)
+
 mul-block-in-step : tie.Need-mul-block-in-step Inv-loop μ-loop
-mul-block-in-step c = omega arith
+mul-block-in-step c = omega (arith, c .before .before .before .before .last-block .ensures)
 
 sub-block-in-step : tie.Need-sub-block-in-step Inv-loop μ-loop
-sub-block-in-step c = omega arith
+sub-block-in-step c = omega (arith, c .before .before .before .before .last-block .ensures)
 
 block-in-step-requires : tie.Need-block-in-step-requires Inv-loop μ-loop
 block-in-step-requires c κs =
-    let s = c .before .before .before .before .before .before .before .before in
-    let last = c .before .before .last-block .ensures in
-    let last-is : (s .args .layout .nodes - 1) / 4000 < stringBlocks (s .args .layout .nodes) = omega arith in
-    let count1 = ap (λ k. wordAt (s .args .b .now) (512 * (1 + k))) last ∙ s .pre .1 .1 .0 _ last-is ∙ ap (λ k. onesTo (s .args .b .now) 1 (4000 * k)) (sym last) in
-    let zeros = s .args .layout .«r0_block» in
-    let count0 = ap (λ k. wordAt (s .args .b .now) (512 * (zeros + k))) last ∙ s .pre .1 .1 .1 .0 _ (omega arith) ∙ ap (λ k. onesTo (s .args .b .now) zeros (4000 * k)) (sym last) in
-    (omega (arith, last), (omega arith, (omega (arith, last), (omega (arith, last), (count1, count0)))))
+    let last = c .before .before .before .before .last-block .ensures in
+    let e = counts c in
+    (omega (arith, last), (omega arith, (omega (arith, last), (omega (arith, last), (e .0, e .1)))))
 
 returns-3 : tie.Need-returns-3 Inv-loop μ-loop
 returns-3 c =
-    let s = c .before .before .before .before .before .before .before .before .before in
+    let f = c .before .before .before in
+    let s = f .before .before .before .before .before .before .before .before in
     let b = s .args .b .now in
     let z = s .args .layout .«r0_block» in
     let n = s .args .layout .nodes in
-    let last = c .before .before .before .last-block in
+    let last = f .before .before .last-block in
     let j = last .result in
-    let bit = c .before .before .before .before .before .string-bit in
+    let bit = f .before .before .before .before .string-bit in
     decides-same (c .block-in-step .result) (StepWithin b z (4000 * j) (4000 * j + (n - 4000 * j))) (InStep (stringIn b 1 0 n) (stringIn b z 0 (n + 1)))
-    (λ this. in-step b z n (s .pre .0 .some) (bit .result) (bit .ensures) (c .before .before .before .before .if1 .left)
+    (λ this. in-step b z n (s .pre .0 .some) (bit .result) (bit .ensures) (f .before .before .before .if1 .left)
     (λ p h g. within-join (λ q. onesTo b 1 q ≤ onesTo b z q) 0 (4000 * j) (4000 * j + (n - 4000 * j))
-    (λ q f k. c .before .before .loop .inv .1 q f (omega (arith, last .ensures))) this p h (omega (arith, last .ensures))))
+    (λ q l k. f .before .loop .inv .1 q l (omega (arith, last .ensures))) this p h (omega (arith, last .ensures))))
     (λ s p h g. step-within b z n s p (omega arith) (omega (arith, last .ensures))) (c .block-in-step .ensures)
 
 pub in-step-spec : {M : Type 1} → statement M
@@ -118,6 +149,12 @@ in-step-spec =
     add-j
     loop-less
     loop-again
+    add-word
+    mul-word
+    word-requires
+    add-word-2
+    mul-word-2
+    word-requires-2
     mul-block-in-step
     sub-block-in-step
     block-in-step-requires

@@ -5,6 +5,7 @@ use Prim.Native.Nat.{_+_, _-_, _*_, _/_, _≤_, _<_}
 use native.Mathlib.Omega.{arith}
 use Rattle.meaning.specs.Image.{stringIn}
 use Rattle.theory.specs.Layout.{wordAt, sampleIn}
+use Rattle.theory.proofs.InBlocks.{no-string}
 use Rattle.image_string.specs.Parts.{onesTo}
 use Rattle.image_string.proofs.Blanks.{kept-counts}
 use Rattle.image_string.proofs.Ones.{onesTo-mono}
@@ -23,12 +24,12 @@ abbrev μ-loop : tie.MeasureT-loop
 -- the ones before the block in which the walk begins
 counted : (c : tie.After-word Inv-loop μ-loop)
     → let a = c .before .before .before .args in
-    c .word .result ≡ onesTo (a .b .now) (a .bits-block) (4000 * c .before .blocks-sampled .result)
+    c .word .result ≡ onesTo (a .b .now) (a .bits-block) (4000 * c .before .blocks-right .result)
 counted c =
     let s = c .before .before .before in
     let a = s .args in
     c .word .ensures
-    ∙ kept-counts (a .b .now) (a .bits-block) (a .n) (s .pre .0) (s .pre .1 .1 .1 .1 .1 .1 .1 .1 .1 .0) (c .before .blocks-sampled .result) (omega (arith, c .before .blocks-sampled .ensures .0))
+    ∙ kept-counts (a .b .now) (a .bits-block) (a .n) (s .pre .0) (s .pre .1 .1 .1 .1 .1 .1 .1 .1 .1 .0) (c .before .blocks-right .result) (omega (arith, c .before .blocks-right .ensures .inside))
 
 -- the sample that is read
 read : (c : tie.After-word2 Inv-loop μ-loop)
@@ -52,22 +53,27 @@ found c =
 add-count : tie.Need-add-count Inv-loop μ-loop
 add-count c = omega arith
 
-blocks-sampled-requires : tie.Need-blocks-sampled-requires Inv-loop μ-loop
-blocks-sampled-requires c κs =
-    let p = c .before .pre in
-    (p .0, (p .1 .0, (p .1 .1 .0, (p .1 .1 .1 .0, (p .1 .1 .1 .1 .1 .0, (p .1 .1 .1 .1 .1 .1 .1 .0, (p .1 .1 .1 .1 .1 .1 .1 .1 .0, p .1 .1 .1 .1 .1 .1 .1 .1 .1 .0)))))))
+blocks-right-requires : tie.Need-blocks-right-requires Inv-loop μ-loop
+blocks-right-requires c κs =
+    let s = c .before in
+    let a = s .args in
+    let p = s .pre in
+    let none : wordAt (a .b .now) (512 * a .bits-block) ≡ 0 =
+    ap (wordAt (a .b .now)) (let e : 512 * a .bits-block ≡ 512 * (a .bits-block + 0) = omega arith in e)
+    ∙ kept-counts (a .b .now) (a .bits-block) (a .n) (p .0) (p .1 .1 .1 .1 .1 .1 .1 .1 .1 .0) 0 (omega arith) ∙ sym (no-string (a .b .now) (a .bits-block)) in
+    (p .0, (p .1 .0, (p .1 .1 .1 .0, (p .1 .1 .1 .1 .1 .0, (p .1 .1 .1 .1 .1 .1 .1 .0, (p .1 .1 .1 .1 .1 .1 .1 .1 .0, none))))))
 
 mul-i : tie.Need-mul-i Inv-loop μ-loop
-mul-i c = omega (arith, c .blocks-sampled .ensures .0)
+mul-i c = omega (arith, c .blocks-right .ensures .inside)
 
 add-word : tie.Need-add-word Inv-loop μ-loop
-add-word c = omega (arith, c .blocks-sampled .ensures .0)
+add-word c = omega (arith, c .blocks-right .ensures .inside)
 
 mul-word : tie.Need-mul-word Inv-loop μ-loop
-mul-word c = omega (arith, c .blocks-sampled .ensures .0)
+mul-word c = omega (arith, c .blocks-right .ensures .inside)
 
 word-requires : tie.Need-word-requires Inv-loop μ-loop
-word-requires c κs = omega (arith, c .blocks-sampled .ensures .0)
+word-requires c κs = omega (arith, c .blocks-right .ensures .inside)
 
 cast-passed : tie.Need-cast-passed Inv-loop μ-loop
 cast-passed c = omega arith
@@ -79,14 +85,14 @@ loop-holds : tie.Need-loop-holds Inv-loop μ-loop
 loop-holds c =
     let s = c .before .before .before in
     let a = s .args in
-    let j = c .before .blocks-sampled in
-    let few = onesTo-mono (a .b .now) (a .bits-block) (4000 * j .result) (a .n) (omega (arith, j .ensures .0)) in
+    let j = c .before .blocks-right in
+    let few = onesTo-mono (a .b .now) (a .bits-block) (4000 * j .result) (a .n) (omega (arith, j .ensures .inside)) in
     let e = counted c in (
       omega (arith, s .pre .1 .1 .0),
-      omega (arith, j .ensures .0),
+      omega (arith, j .ensures .inside),
       e,
       omega arith,
-      λ q h. front-sampled (a .b .now) (a .samples) (a .bits-block) (a .n) (4000 * j .result) q (omega (arith, j .ensures .0)) (j .ensures .1) (omega arith),
+      λ q h. front-sampled (a .b .now) (a .samples) (a .bits-block) (a .n) (4000 * j .result) q (omega (arith, j .ensures .inside)) (j .ensures .sampled) (omega arith),
     )
 
 mul-select-after : tie.Need-mul-select-after Inv-loop μ-loop
@@ -171,7 +177,7 @@ wrong-in-samples-spec =
     Inv-loop
     μ-loop
     add-count
-    blocks-sampled-requires
+    blocks-right-requires
     mul-i
     add-word
     mul-word

@@ -1,78 +1,71 @@
 -- `fault_strings::step_counted` meets its contract: the strings are in step in the blocks passed,
--- whose ones are counted.
-use mathlib.Core.Path.{_≡_, sym, ap, _∙_}
+-- whose ones are counted, and the counts of these and of the next are held against that.
+use mathlib.Core.Path.{_≡_, sym, ap, subst, _∙_}
 use Prim.Native.Nat.{_+_, _-_, _*_, _/_, _≤_}
 use native.Mathlib.Omega.{arith}
+use Rattle.meaning.specs.Image.{stringBlocks}
+use Rattle.theory.specs.Faults.{LowestWrong}
 use Rattle.theory.proofs.InBlocks.{string-ones-le, no-string, counted-on, counted-full}
 use Rattle.image_string.specs.Parts.{onesTo}
-use Rattle.image_string.proofs.Saying.{decides-held, decides-missed, decides-same}
+use Rattle.image_string.proofs.Saying.{decides-held, decides-missed}
 use Rattle.image_string.proofs.Within.{within-join}
 use Rattle.check_runs.specs.Steps.{StepWithin}
-use Rattle.fault_strings.specs.Given.{StepCounted}
 use Rattle.check_runs.proofs.Stepping.{no-first, in-step, step-within}
+use Rattle.fault_strings.specs.Given.{CountKept, LastBlocks}
+use Rattle.fault_strings.proofs.Finding.{none-yet, lowest-more}
 use Rattle.fault_strings.proofs.step_counted.Statement.{statement}
 use Rattle.fault_strings.proofs.step_counted.Tie as tie
 
 abbrev Inv-loop : tie.InvT-loop
-Inv-loop b r0-block n m last ones1₀ ones0₀ j₀ ones1 ones0 j = (j ≤ (n - 1) / 4000) × (ones1 ≡ onesTo b 1 (4000 * j)) × (ones0 ≡ onesTo b r0-block (4000 * j)) × StepWithin b r0-block 0 (4000 * j)
+Inv-loop b r0-block n m last ones1₀ ones0₀ wrong1₀ wrong0₀ j₀ ones1 ones0 wrong1 wrong0 j =
+    (j ≤ (n - 1) / 4000) × (ones1 ≡ onesTo b 1 (4000 * j)) × (ones0 ≡ onesTo b r0-block (4000 * j)) × StepWithin b r0-block 0 (4000 * j)
+    × LowestWrong (CountKept b 1) 1 (j + 1) wrong1 × LowestWrong (CountKept b r0-block) r0-block (j + 1) wrong0
 
 abbrev μ-loop : tie.MeasureT-loop
-μ-loop b r0-block n m last ones1₀ ones0₀ j₀ ones1 ones0 j = (n - 1) / 4000 - j
+μ-loop b r0-block n m last ones1₀ ones0₀ wrong1₀ wrong0₀ j₀ ones1 ones0 wrong1 wrong0 j = (n - 1) / 4000 - j
 
--- the ones of R1 after one block more, and of R0
+abbrev started : tie.At-loop Inv-loop μ-loop → tie.After-last-block Inv-loop μ-loop
+started l = l .before .before .before .before .before
+
+abbrev start : tie.At-loop Inv-loop μ-loop → tie.Start Inv-loop μ-loop
+start l = started l .before .before .before .before
+
+-- the ones of R1 after one block more
 more1 : (c : tie.After-ones-from Inv-loop μ-loop)
     → let l = c .before .before .before in
-    l .loop .ones1 + c .ones-from .result ≡ onesTo (l .before .before .before .before .before .args .b .now) 1 (4000 * l .loop .j + 4000)
+    l .loop .ones1 + c .ones-from .result ≡ onesTo (start l .args .b .now) 1 (4000 * l .loop .j + 4000)
 more1 c =
     let l = c .before .before .before in
-    counted-on (l .before .before .before .before .before .args .b .now) 1 (l .loop .j) 4000 (c .before .bits-at .result) (l .loop .ones1) (c .ones-from .result)
+    counted-on (start l .args .b .now) 1 (l .loop .j) 4000 (c .before .bits-at .result) (l .loop .ones1) (c .ones-from .result)
     (omega arith) (c .before .bits-at .ensures) (l .loop .inv .1) (c .ones-from .ensures)
 
-more0 : (c : tie.After-ones-from2 Inv-loop μ-loop)
+next1 : (c : tie.After-ones-from Inv-loop μ-loop)
+    → let l = c .before .before .before in
+    l .loop .ones1 + c .ones-from .result ≡ onesTo (start l .args .b .now) 1 (4000 * (l .loop .j + 1))
+next1 c =
+    let l = c .before .before .before in
+    more1 c ∙ ap (onesTo (start l .args .b .now) 1) (let e : 4000 * l .loop .j + 4000 ≡ 4000 * (l .loop .j + 1) = omega arith in e)
+
+-- and of R0
+next0 : (c : tie.After-ones-from2 Inv-loop μ-loop)
     → let l = c .before .before .before .before .before .before .before in
-    let a = l .before .before .before .before .before .args in
+    let a = start l .args in
     l .loop .ones0 + c .ones-from2 .result ≡ onesTo (a .b .now) (a .r0-block) (4000 * (l .loop .j + 1))
-more0 c =
+next0 c =
     let l = c .before .before .before .before .before .before .before in
-    let a = l .before .before .before .before .before .args in
+    let a = start l .args in
     counted-full (a .b .now) (a .r0-block) (l .loop .j) (c .before .bits-at2 .result) (l .loop .ones0) (c .ones-from2 .result) (c .before .bits-at2 .ensures) (l .loop .inv .2) (c .ones-from2 .ensures)
 
 -- the loop has come to the last block
-ended : (c : tie.After-loop Inv-loop μ-loop) → c .before .loop .j ≡ c .before .before .last-block .result
-ended c = omega (arith, c .loop-test .left, c .before .loop .inv .0, c .before .before .last-block .ensures)
+ended : (c : tie.After-loop Inv-loop μ-loop) → c .before .loop .j ≡ (start (c .before) .args .n - 1) / 4000
+ended c = omega (arith, c .loop-test .left, c .before .loop .inv .0, started (c .before) .last-block .ensures)
 
--- the ones of R1 in all
-all1 : (c : tie.After-ones-from3 Inv-loop μ-loop)
-    → let l = c .before .before .before in
-    let a = l .before .before .before .before .before .args in
-    let j = l .before .last-block .result in
-    l .loop .ones1 + c .ones-from3 .result ≡ onesTo (a .b .now) 1 (4000 * j + (a .n - 4000 * j))
-all1 c =
-    let l = c .before .before .before in
-    let a = l .before .before .before .before .before .args in
-    let last = l .before .last-block in
-    let j = last .result in
-    counted-on (a .b .now) 1 j (a .n - 4000 * j) (c .before .bits-at3 .result) (l .loop .ones1) (c .ones-from3 .result) (omega (arith, last .ensures)) (c .before .bits-at3 .ensures)
-    (l .loop .inv .1 ∙ ap (λ i. onesTo (a .b .now) 1 (4000 * i)) (ended (c .before .before))) (c .ones-from3 .ensures)
+all-passed : (c : tie.After-loop Inv-loop μ-loop) → c .before .loop .j + 1 ≡ stringBlocks (start (c .before) .args .n)
+all-passed c = omega (arith, ended c, start (c .before) .pre .0)
 
--- the ones of R0 in as many bits
-all0 : (c : tie.After-ones-from4 Inv-loop μ-loop)
-    → let l = c .before .before .before .before .before .before in
-    let a = l .before .before .before .before .before .args in
-    let j = l .before .last-block .result in
-    l .loop .ones0 + c .ones-from4 .result ≡ onesTo (a .b .now) (a .r0-block) (4000 * j + (a .n - 4000 * j))
-all0 c =
-    let l = c .before .before .before .before .before .before in
-    let a = l .before .before .before .before .before .args in
-    let last = l .before .last-block in
-    let j = last .result in
-    counted-on (a .b .now) (a .r0-block) j (a .n - 4000 * j) (c .before .bits-at4 .result) (l .loop .ones0) (c .ones-from4 .result)
-    (omega (arith, last .ensures)) (c .before .bits-at4 .ensures)
-    (l .loop .inv .2 ∙ ap (λ i. onesTo (a .b .now) (a .r0-block) (4000 * i)) (ended (c .before .before .before .before .before))) (c .ones-from4 .ensures)
-
--- which are all of R1's, and R0's but for the last
-whole : (c : tie.After-loop Inv-loop μ-loop) → let j = c .before .before .last-block .result in let n = c .before .before .before .before .before .before .args .n in 4000 * j + (n - 4000 * j) ≡ n
-whole c = omega (arith, c .before .before .last-block .ensures)
+-- what was told of it
+last-told : (c : tie.Else3 Inv-loop μ-loop) → let a = start (c .before .before .before) .args in LastBlocks (a .b .now) (a .r0-block) (a .n) (a .m)
+last-told c = decides-held (c .before .last-blocks .result) _ (c .before .last-blocks .ensures) (c .if3 .left)
 
 string-bit-requires : tie.Need-string-bit-requires Inv-loop μ-loop
 string-bit-requires c κs = (omega arith, (omega arith, omega arith))
@@ -85,199 +78,214 @@ returns c =
 last-block-requires : tie.Need-last-block-requires Inv-loop μ-loop
 last-block-requires c κs = omega arith
 
+word-requires : tie.Need-word-requires Inv-loop μ-loop
+word-requires c κs = omega arith
+
+lowest-wrong-requires : tie.Need-lowest-wrong-requires Inv-loop μ-loop
+lowest-wrong-requires c κs = omega arith
+
+mul-word : tie.Need-mul-word Inv-loop μ-loop
+mul-word c = omega arith
+
+word-requires-2 : tie.Need-word-requires-2 Inv-loop μ-loop
+word-requires-2 c κs = omega arith
+
+lowest-wrong-requires-2 : tie.Need-lowest-wrong-requires-2 Inv-loop μ-loop
+lowest-wrong-requires-2 c κs = omega arith
+
 loop-holds : tie.Need-loop-holds Inv-loop μ-loop
-loop-holds c = (omega arith, no-string _ _, no-string _ _, λ p h g. absurd (omega arith))
+loop-holds c =
+    let w1 = c .before .before in
+    let s = w1 .before .before .before .before .before .before in
+    let b = s .args .b .now in
+    let z = s .args .r0-block in (
+      omega arith,
+      no-string _ _,
+      no-string _ _,
+      λ p h g. absurd (omega arith),
+      lowest-more b 1 0 0 1 (w1 .before .word .result) 0 (w1 .lowest-wrong .result) (omega arith) (omega arith) (w1 .before .word .ensures) (no-string b 1) (none-yet b 1) (w1 .lowest-wrong .ensures),
+      lowest-more b z 0 0 z (c .before .word2 .result) 0 (c .lowest-wrong2 .result) (s .pre .1 .1 .0) (omega arith) (c .before .word2 .ensures) (no-string b z) (none-yet b z)
+          (c .lowest-wrong2 .ensures),
+    )
 
 add-bits-at : tie.Need-add-bits-at Inv-loop μ-loop
-add-bits-at c = omega (arith, c .before .before .last-block .ensures)
+add-bits-at c = omega (arith, started (c .before) .last-block .ensures)
 
 bits-at-requires : tie.Need-bits-at-requires Inv-loop μ-loop
-bits-at-requires c κs = omega (arith, c .before .before .last-block .ensures)
+bits-at-requires c κs = omega (arith, started (c .before) .last-block .ensures)
 
 ones-from-requires : tie.Need-ones-from-requires Inv-loop μ-loop
-ones-from-requires c κs = omega (arith, c .before .before .before .last-block .ensures, c .bits-at .ensures)
+ones-from-requires c κs = omega (arith, started (c .before .before) .last-block .ensures, c .bits-at .ensures)
 
 add-end1 : tie.Need-add-end1 Inv-loop μ-loop
 add-end1 c =
     let l = c .before .before .before in
-    omega (arith, more1 c, l .before .last-block .ensures, string-ones-le (l .before .before .before .before .before .args .b .now) 1 (4000 * l .loop .j + 4000))
-
-cast-block-step : tie.Need-cast-block-step Inv-loop μ-loop
-cast-block-step c =
-    let l = c .before .before .before in
-    let a = l .before .before .before .before .before .args in
-    omega (arith, l .loop .inv .1, string-ones-le (a .b .now) 1 (4000 * l .loop .j), l .loop .inv .0)
-
-cast-block-step-2 : tie.Need-cast-block-step-2 Inv-loop μ-loop
-cast-block-step-2 c =
-    let l = c .before .before .before in
-    let a = l .before .before .before .before .before .args in
-    omega (arith, l .loop .inv .2, string-ones-le (a .b .now) (a .r0-block) (4000 * l .loop .j), l .loop .inv .0)
-
-cast-block-step-3 : tie.Need-cast-block-step-3 Inv-loop μ-loop
-cast-block-step-3 c =
-    let l = c .before .before .before in
-    omega (arith, more1 c, l .before .last-block .ensures, string-ones-le (l .before .before .before .before .before .args .b .now) 1 (4000 * l .loop .j + 4000))
+    omega (arith, more1 c, started l .last-block .ensures, string-ones-le (start l .args .b .now) 1 (4000 * l .loop .j + 4000))
 
 block-step-requires : tie.Need-block-step-requires Inv-loop μ-loop
 block-step-requires c κs =
     let l = c .before .before .before in
-    let last = l .before .last-block .ensures in
-    (omega arith, (omega arith, (omega arith, (omega arith, (omega arith, (l .loop .inv .1, (l .loop .inv .2, more1 c)))))))
+    let last = started l .last-block .ensures in
+    let p = start l .pre in
+    (omega arith, (omega arith, (omega arith, (omega arith, (l .loop .inv .1, (l .loop .inv .2, more1 c))))))
 
 returns-2 : tie.Need-returns-2 Inv-loop μ-loop
 returns-2 c =
     let l = c .before .before .before .before .before in
-    let a = l .before .before .before .before .before .args in
+    let a = start l .args in
     let j = l .loop .j in
     λ g. decides-missed (c .before .block-step .result) (StepWithin (a .b .now) (a .r0-block) (4000 * j) (4000 * j + 4000)) (c .before .block-step .ensures) (c .if2 .taken)
-    (λ p h k. step-within (a .b .now) (a .r0-block) (a .n) (g .inStep) p (omega arith) (omega (arith, l .before .last-block .ensures)))
+    (λ p h k. step-within (a .b .now) (a .r0-block) (a .n) (g .inStep) p (omega arith) (omega (arith, started l .last-block .ensures)))
 
 add-bits-at-2 : tie.Need-add-bits-at-2 Inv-loop μ-loop
-add-bits-at-2 c = omega (arith, c .before .before .before .before .before .before .last-block .ensures)
+add-bits-at-2 c =
+    let l = c .before .before .before .before .before in
+    omega (arith, started l .last-block .ensures, start l .pre)
 
 bits-at-requires-2 : tie.Need-bits-at-requires-2 Inv-loop μ-loop
-bits-at-requires-2 c κs = omega (arith, c .before .before .before .before .before .before .last-block .ensures)
+bits-at-requires-2 c κs =
+    let l = c .before .before .before .before .before in
+    omega (arith, started l .last-block .ensures, start l .pre)
 
 ones-from-requires-2 : tie.Need-ones-from-requires-2 Inv-loop μ-loop
-ones-from-requires-2 c κs = omega (arith, c .before .before .before .before .before .before .before .last-block .ensures, c .bits-at2 .ensures)
+ones-from-requires-2 c κs =
+    let l = c .before .before .before .before .before .before in
+    omega (arith, started l .last-block .ensures, start l .pre, c .bits-at2 .ensures)
 
-add-ones0 : tie.Need-add-ones0 Inv-loop μ-loop
-add-ones0 c =
+add-end0 : tie.Need-add-end0 Inv-loop μ-loop
+add-end0 c =
     let l = c .before .before .before .before .before .before .before in
-    let a = l .before .before .before .before .before .args in
-    omega (arith, more0 c, l .before .last-block .ensures, string-ones-le (a .b .now) (a .r0-block) (4000 * (l .loop .j + 1)))
+    let a = start l .args in
+    omega (arith, next0 c, started l .last-block .ensures, string-ones-le (a .b .now) (a .r0-block) (4000 * (l .loop .j + 1)))
 
 add-j : tie.Need-add-j Inv-loop μ-loop
 add-j c = omega arith
 
+add-word : tie.Need-add-word Inv-loop μ-loop
+add-word c =
+    let l = c .before .before .before .before .before .before .before in
+    omega (arith, started l .last-block .ensures, start l .pre)
+
+mul-word-2 : tie.Need-mul-word-2 Inv-loop μ-loop
+mul-word-2 c =
+    let l = c .before .before .before .before .before .before .before in
+    omega (arith, started l .last-block .ensures, start l .pre)
+
+word-requires-3 : tie.Need-word-requires-3 Inv-loop μ-loop
+word-requires-3 c κs =
+    let l = c .before .before .before .before .before .before .before in
+    omega (arith, started l .last-block .ensures, start l .pre)
+
+add-word-2 : tie.Need-add-word-2 Inv-loop μ-loop
+add-word-2 c =
+    let l = c .before .before .before .before .before .before .before .before in
+    omega (arith, started l .last-block .ensures, start l .pre)
+
+mul-word-3 : tie.Need-mul-word-3 Inv-loop μ-loop
+mul-word-3 c =
+    let l = c .before .before .before .before .before .before .before .before in
+    omega (arith, started l .last-block .ensures, start l .pre)
+
+word-requires-4 : tie.Need-word-requires-4 Inv-loop μ-loop
+word-requires-4 c κs =
+    let l = c .before .before .before .before .before .before .before .before in
+    omega (arith, started l .last-block .ensures, start l .pre)
+
+add-lowest-wrong : tie.Need-add-lowest-wrong Inv-loop μ-loop
+add-lowest-wrong c =
+    let l = c .before .before .before .before .before .before .before .before .before in
+    omega (arith, started l .last-block .ensures, start l .pre)
+
+lowest-wrong-requires-3 : tie.Need-lowest-wrong-requires-3 Inv-loop μ-loop
+lowest-wrong-requires-3 c κs =
+    let l = c .before .before .before .before .before .before .before .before .before in
+    omega (arith, started l .last-block .ensures, start l .pre)
+
+add-lowest-wrong-2 : tie.Need-add-lowest-wrong-2 Inv-loop μ-loop
+add-lowest-wrong-2 c =
+    let l = c .before .before .before .before .before .before .before .before .before .before in
+    omega (arith, started l .last-block .ensures, start l .pre)
+
+lowest-wrong-requires-4 : tie.Need-lowest-wrong-requires-4 Inv-loop μ-loop
+lowest-wrong-requires-4 c κs =
+    let l = c .before .before .before .before .before .before .before .before .before .before in
+    omega (arith, started l .last-block .ensures, start l .pre)
+
 loop-less : tie.Need-loop-less Inv-loop μ-loop
-loop-less c = omega (arith, c .before .before .before .before .before .before .before .before .last-block .ensures)
+loop-less c =
+    let t = c .before .before .before .before .before .before .before .before .before .before in
+    omega (arith, t .loop-test .taken, started (t .before) .last-block .ensures)
 
 loop-again : tie.Need-loop-again Inv-loop μ-loop
 loop-again c =
-    let l = c .before .before .before .before .before .before .before in
-    let a = l .before .before .before .before .before .args in
+    let w = c .before .before in
+    let o = w .before .before in
+    let e = o .before .before in
+    let l = e .before .before .before .before .before in
+    let a = start l .args in
     let b = a .b .now in
     let z = a .r0-block in
     let j = l .loop .j in
-    let e = c .before .before in
-    let this = decides-held (e .before .block-step .result) (StepWithin b z (4000 * j) (4000 * j + 4000)) (e .before .block-step .ensures) (e .if2 .left) in (
-      omega (arith, l .before .last-block .ensures),
-      more1 (e .before .before) ∙ ap (onesTo b 1) (let f : 4000 * j + 4000 ≡ 4000 * (j + 1) = omega arith in f),
-      more0 c,
+    let this = decides-held (e .before .block-step .result) (StepWithin b z (4000 * j) (4000 * j + 4000)) (e .before .block-step .ensures) (e .if2 .left) in
+    let end1 = next1 (e .before .before) in
+    let end0 = next0 o in (
+      omega (arith, started l .last-block .ensures),
+      end1,
+      end0,
       λ p h g. within-join (λ q. onesTo b 1 q ≤ onesTo b z q) 0 (4000 * j) (4000 * j + 4000) (l .loop .inv .3) this p h (omega arith),
+      lowest-more b 1 (j + 1) (l .loop .wrong1) (1 + (j + 1)) (w .before .word3 .result) (l .loop .ones1 + e .before .before .ones-from .result) (c .before .lowest-wrong3 .result)
+          (omega arith) (omega arith) (w .before .word3 .ensures) end1 (l .loop .inv .4) (c .before .lowest-wrong3 .ensures),
+      lowest-more b z (j + 1) (l .loop .wrong0) (z + (j + 1)) (w .word4 .result) (l .loop .ones0 + o .ones-from2 .result) (c .lowest-wrong4 .result)
+          (start l .pre .1 .1 .0) (omega arith) (w .word4 .ensures) end0 (l .loop .inv .5) (c .lowest-wrong4 .ensures),
     )
 
-mul-rest : tie.Need-mul-rest Inv-loop μ-loop
-mul-rest c = omega (arith, c .before .before .last-block .ensures)
-
-sub-rest : tie.Need-sub-rest Inv-loop μ-loop
-sub-rest c = omega (arith, c .before .before .last-block .ensures)
-
-add-bits-at-3 : tie.Need-add-bits-at-3 Inv-loop μ-loop
-add-bits-at-3 c = omega (arith, c .before .before .last-block .ensures)
-
-bits-at-requires-3 : tie.Need-bits-at-requires-3 Inv-loop μ-loop
-bits-at-requires-3 c κs = omega (arith, c .before .before .last-block .ensures)
-
-ones-from-requires-3 : tie.Need-ones-from-requires-3 Inv-loop μ-loop
-ones-from-requires-3 c κs = omega (arith, c .before .before .before .last-block .ensures, c .bits-at3 .ensures)
-
-add-end1-2 : tie.Need-add-end1-2 Inv-loop μ-loop
-add-end1-2 c =
-    let a = c .before .before .before .before .before .before .before .before .args in
-    let j = c .before .before .before .before .last-block in
-    omega (arith, all1 c, j .ensures, string-ones-le (a .b .now) 1 (4000 * j .result + (a .n - 4000 * j .result)))
+last-blocks-requires : tie.Need-last-blocks-requires Inv-loop μ-loop
+last-blocks-requires c κs =
+    let l = c .before in
+    let a = start l .args in
+    let e = ended c in
+    let p = start l .pre in
+    let ones1 = l .loop .inv .1 ∙ ap (λ i. onesTo (a .b .now) 1 (4000 * i)) e in
+    let ones0 = l .loop .inv .2 ∙ ap (λ i. onesTo (a .b .now) (a .r0-block) (4000 * i)) e in
+    (omega arith, (omega arith, (omega arith, (omega arith, (omega arith, (ones1, ones0))))))
 
 returns-3 : tie.Need-returns-3 Inv-loop μ-loop
 returns-3 c =
-    let f = c .before .before .before in
-    let a = f .before .before .before .before .before .before .args in
-    λ g. c .if3 .taken (all1 (c .before) ∙ ap (onesTo (a .b .now) 1) (whole f) ∙ g .ones1)
+    let a = start (c .before .before .before) .args in
+    λ g. decides-missed (c .before .last-blocks .result) _ (c .before .last-blocks .ensures) (c .if3 .taken) (record {
+      ones1 = g .ones1;
+      ones0 = g .ones0;
+      inStep = λ p h k. step-within (a .b .now) (a .r0-block) (a .n) (g .inStep) p (omega arith) k;
+    })
 
-add-bits-at-4 : tie.Need-add-bits-at-4 Inv-loop μ-loop
-add-bits-at-4 c = omega (arith, c .before .before .before .before .before .last-block .ensures)
+sub-lowest-in-r0 : tie.Need-sub-lowest-in-r0 Inv-loop μ-loop
+sub-lowest-in-r0 c = omega (arith, last-told c .ones0)
 
-bits-at-requires-4 : tie.Need-bits-at-requires-4 Inv-loop μ-loop
-bits-at-requires-4 c κs = omega (arith, c .before .before .before .before .before .last-block .ensures)
-
-ones-from-requires-4 : tie.Need-ones-from-requires-4 Inv-loop μ-loop
-ones-from-requires-4 c κs = omega (arith, c .before .before .before .before .before .before .last-block .ensures, c .bits-at4 .ensures)
-
-add-end0 : tie.Need-add-end0 Inv-loop μ-loop
-add-end0 c =
-    let a = c .before .before .before .before .before .before .before .before .before .before .before .args in
-    let j = c .before .before .before .before .before .before .before .last-block in
-    omega (arith, all0 c, j .ensures, string-ones-le (a .b .now) (a .r0-block) (4000 * j .result + (a .n - 4000 * j .result)))
-
-add-if4 : tie.Need-add-if4 Inv-loop μ-loop
-add-if4 c =
-    let a = c .before .before .before .before .before .before .before .before .before .before .before .args in
-    let j = c .before .before .before .before .before .before .before .last-block in
-    omega (arith, all0 c, j .ensures, string-ones-le (a .b .now) (a .r0-block) (4000 * j .result + (a .n - 4000 * j .result)))
+lowest-in-r0-requires : tie.Need-lowest-in-r0-requires Inv-loop μ-loop
+lowest-in-r0-requires c κs =
+    let f = c .before .before in
+    let l = f .before in
+    let a = start l .args in
+    let p = start l .pre in
+    let found = subst (λ k. LowestWrong (CountKept (a .b .now) (a .r0-block)) (a .r0-block) k (l .loop .wrong0)) (all-passed f) (l .loop .inv .5) in
+    (omega arith, (omega arith, (omega arith, (omega arith, (found, omega (arith, last-told c .ones0))))))
 
 returns-4 : tie.Need-returns-4 Inv-loop μ-loop
 returns-4 c =
-    let f = c .before .before .before .before .before .before in
-    let a = f .before .before .before .before .before .before .args in
-    λ g. c .if4 .taken (ap (λ k. k + 1) (all0 (c .before) ∙ ap (onesTo (a .b .now) (a .r0-block)) (whole f)) ∙ g .ones0)
-
-cast-block-step-4 : tie.Need-cast-block-step-4 Inv-loop μ-loop
-cast-block-step-4 c =
-    let l = c .before .before .before .before .before .before .before in
-    let a = l .before .before .before .before .before .args in
-    omega (arith, l .loop .inv .1, string-ones-le (a .b .now) 1 (4000 * l .loop .j), l .loop .inv .0)
-
-cast-block-step-5 : tie.Need-cast-block-step-5 Inv-loop μ-loop
-cast-block-step-5 c =
-    let l = c .before .before .before .before .before .before .before in
-    let a = l .before .before .before .before .before .args in
-    omega (arith, l .loop .inv .2, string-ones-le (a .b .now) (a .r0-block) (4000 * l .loop .j), l .loop .inv .0)
-
-cast-block-step-6 : tie.Need-cast-block-step-6 Inv-loop μ-loop
-cast-block-step-6 c =
-    let k = c .before .before .before .before in
-    let a = k .before .before .before .before .before .before .before .before .args in
-    let j = k .before .before .before .before .last-block in
-    omega (arith, all1 k, j .ensures, string-ones-le (a .b .now) 1 (4000 * j .result + (a .n - 4000 * j .result)))
-
-block-step-requires-2 : tie.Need-block-step-requires-2 Inv-loop μ-loop
-block-step-requires-2 c κs =
-    let k = c .before .before .before .before in
-    let l = k .before .before .before in
-    let a = l .before .before .before .before .before .args in
-    let last = l .before .last-block in
-    let here = ended (k .before .before) in
-    let e1 = l .loop .inv .1 ∙ ap (λ i. onesTo (a .b .now) 1 (4000 * i)) here in
-    let e0 = l .loop .inv .2 ∙ ap (λ i. onesTo (a .b .now) (a .r0-block) (4000 * i)) here in
-    let ends = last .ensures in
-    (omega arith, (omega arith, (omega arith, (omega arith, (omega arith, (e1, (e0, all1 k)))))))
-
-returns-5 : tie.Need-returns-5 Inv-loop μ-loop
-returns-5 c =
-    let f = c .before .before .before .before .before .before .before in
+    let f = c .before .before .before in
     let l = f .before in
-    let s = l .before .before .before .before .before in
+    let s = start l in
     let b = s .args .b .now in
     let z = s .args .r0-block in
     let n = s .args .n in
-    let last = l .before .last-block in
-    let j = last .result in
-    let bit = l .before .before .before .string-bit in
-    let e0 = c .before in
-    let e1 = e0 .before .before .before in
-    let ones1 = ap (onesTo b 1) (sym (whole f)) ∙ sym (all1 (e1 .before)) ∙ e1 .if3 .left in
-    let ones0 = ap (λ k. k + 1) (ap (onesTo b z) (sym (whole f)) ∙ sym (all0 (e0 .before))) ∙ e0 .if4 .left in
-    decides-same (c .block-step2 .result) (StepWithin b z (4000 * j) (4000 * j + (n - 4000 * j))) (StepCounted b z n (s .args .m))
-    (λ this. record {
-      ones1 = ones1;
-      ones0 = ones0;
-      inStep = in-step b z n (s .pre .0) (bit .result) (bit .ensures) (l .before .before .if1 .left)
-          (λ p h g. within-join (λ q. onesTo b 1 q ≤ onesTo b z q) 0 (4000 * j) (4000 * j + (n - 4000 * j))
-          (λ q f′ k. l .loop .inv .3 q f′ (omega (arith, f .loop-test .left))) this p h (omega (arith, last .ensures)));
-    })
-    (λ s p h g. step-within b z n (s .inStep) p (omega arith) (omega (arith, last .ensures))) (c .block-step2 .ensures)
+    let bit = started l .before .before .string-bit in
+    let told = last-told (c .before) in
+    let earlier : StepWithin b z 0 (4000 * ((n - 1) / 4000)) = λ p h g. l .loop .inv .3 p h (omega (arith, ended f)) in
+    let within : StepWithin b z 0 n = within-join (λ q. onesTo b 1 q ≤ onesTo b z q) 0 (4000 * ((n - 1) / 4000)) n earlier (told .inStep) in (
+      record { ones1 = told .ones1; ones0 = told .ones0; inStep = in-step b z n (s .pre .0) (bit .result) (bit .ensures) (started l .before .if1 .left) within },
+      subst (λ k. LowestWrong (CountKept b 1) 1 k (l .loop .wrong1)) (all-passed f) (l .loop .inv .4),
+      c .lowest-in-r0 .ensures,
+    )
 
 pub step-counted-spec : {M : Type 1} → statement M
 step-counted-spec =
@@ -288,38 +296,37 @@ step-counted-spec =
     string-bit-requires
     returns
     last-block-requires
+    word-requires
+    lowest-wrong-requires
+    mul-word
+    word-requires-2
+    lowest-wrong-requires-2
     loop-holds
     add-bits-at
     bits-at-requires
     ones-from-requires
     add-end1
-    cast-block-step
-    cast-block-step-2
-    cast-block-step-3
     block-step-requires
     returns-2
     add-bits-at-2
     bits-at-requires-2
     ones-from-requires-2
-    add-ones0
+    add-end0
     add-j
+    add-word
+    mul-word-2
+    word-requires-3
+    add-word-2
+    mul-word-3
+    word-requires-4
+    add-lowest-wrong
+    lowest-wrong-requires-3
+    add-lowest-wrong-2
+    lowest-wrong-requires-4
     loop-less
     loop-again
-    mul-rest
-    sub-rest
-    add-bits-at-3
-    bits-at-requires-3
-    ones-from-requires-3
-    add-end1-2
+    last-blocks-requires
     returns-3
-    add-bits-at-4
-    bits-at-requires-4
-    ones-from-requires-4
-    add-end0
-    add-if4
-    returns-4
-    cast-block-step-4
-    cast-block-step-5
-    cast-block-step-6
-    block-step-requires-2
-    returns-5)
+    sub-lowest-in-r0
+    lowest-in-r0-requires
+    returns-4)

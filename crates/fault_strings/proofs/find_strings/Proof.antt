@@ -1,10 +1,10 @@
--- `fault_strings::strings_given` meets its contract.
+-- `fault_strings::find_strings` meets its contract.
 use borrow.Author.Needs.{needs}
-use Rattle.image_string.proofs.Saying.{decides-same}
 use Rattle.fault_strings.specs.Given.{StepCounted, StringsGiven}
 use Rattle.fault_strings.proofs.Giving.{last-of-r1, last-of-r0, given, counted}
-use Rattle.fault_strings.proofs.strings_given.Statement.{statement}
-use Rattle.fault_strings.proofs.strings_given.Tie as tie
+use Rattle.fault_strings.proofs.Finding.{finds-same}
+use Rattle.fault_strings.proofs.find_strings.Statement.{statement}
+use Rattle.fault_strings.proofs.find_strings.Tie as tie
 
 cast-n : tie.Need-cast-n
 cast-n c = search needs
@@ -46,12 +46,12 @@ returns-3 c =
     let e1 = e0 .before .before in
     let bit1 = e1 .before .string-bit in
     let bit0 = e0 .before .string-bit2 in
-    decides-same (c .step-counted .result) (StepCounted b (layout .«r0_block») (layout .nodes) (layout .runs)) (StringsGiven b layout)
+    finds-same (c .step-counted .result) (StringsGiven b layout) (StepCounted b (layout .«r0_block») (layout .nodes) (layout .runs)) b (layout .«r0_block») (layout .nodes)
     (given b layout (s .pre .some) (bit1 .result) (bit1 .ensures) (bit0 .result) (bit0 .ensures) (e1 .if1 .left) (e0 .if2 .left))
     (counted b layout (s .pre .some) (bit1 .result) (bit1 .ensures) (bit0 .result) (bit0 .ensures) (e1 .if1 .left) (e0 .if2 .left)) (c .step-counted .ensures)
 
-pub strings-given-spec : {M : Type 1} → statement M
-strings-given-spec =
+pub find-strings-spec : {M : Type 1} → statement M
+find-strings-spec =
     tie.close
     (tie.spec
     cast-n
