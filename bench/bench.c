@@ -1,12 +1,13 @@
 /* Times every call of the library beside the plain C store and the peers, on the same trees, and prints one table of ratios,
- * and a short one of what the named forms of sums and listing cost plain C.
+ * and a short one of what the named forms of sums, metres and listing cost plain C.
  *
  *   bench ROUNDS                                 the tables
  *   bench STORE CALL SHAPE NODES TIMES           that many calls and nothing else, for a profiler or a counter of
  *                                                instructions; STORE is library, plain_o2, faster_o2, plain_o3 or
  *                                                before, CALL as name_of_call names it
  *
- * Made with WITH_BEFORE it holds an earlier archive of the library too, with `before_` for `plq_` in the names of its calls.
+ * Made with WITH_BEFORE it holds an earlier archive of the library too, with `before_` for `plq_` in the names of its calls; with
+ * BEFORE_HAS_METRES that one has the two calls about metres.
  *
  * Other work on the machine moves a time by far more than the differences looked for. So the contestants take turns in
  * short samples, a ratio is always one of two samples of the same round, and the table has the median of these ratios,
@@ -45,6 +46,13 @@ BEFORE(ask);
 BEFORE(split);
 BEFORE(join);
 BEFORE(list);
+#ifdef BEFORE_HAS_METRES
+BEFORE(image_with_metres);
+BEFORE(metres_of_image);
+#else
+#define before_image_with_metres NULL
+#define before_metres_of_image NULL
+#endif
 static const struct store before = {"the archive before", CALLS_OF(before_)};
 #endif
 
@@ -69,25 +77,32 @@ enum beside {
     WALK  /* a listing, by a tree that is open */
 };
 
+#define ON_ALL(target) {target, target, target, target, target, target}
+_Static_assert(KINDS == 6, "ON_ALL has a target for each of them");
+
 static const struct row {
     const char *name;
     enum call call;
-    double target;     /* the most that library / plain C at -O2 should be; 0: none was set */
-    int answers_alone; /* less what the same call takes without a question */
-    int named_form;    /* makes sums or a listing, for both of which there is a faster form than the named one */
+    double targets[KINDS]; /* the most that library / plain C at -O2 should be on each kind of trees; 0: none was set */
+    int answers_alone;     /* less what the same call takes without a question */
+    int named_form;        /* makes sums, copies metres or lists, for all of which there is a faster form than the named one */
     enum beside beside;
 } rows[] = {
-    {"`plq_check_image`", CHECK_IMAGE, 1.0, 0, 1, OPEN},
-    {"`plq_check_image`, wrong sample", REFUSE_IMAGE, 1.5, 0, 1, NOTHING},
-    {"`plq_ask`, 256 mixed", ASK, 1.0, 0, 1, OPEN_AND_ANSWER},
-    {"the 256 answers alone", ASK, 0, 1, 0, ANSWER},
-    {"`plq_string_of_parents`", STRING_OF_PARENTS, 1.0, 0, 0, NOTHING},
-    {"`plq_parents_of_string`", PARENTS_OF_STRING, 1.0, 0, 0, NOTHING},
-    {"`plq_image_of_parents`", IMAGE_OF_PARENTS, 1.0, 0, 1, SAVE},
-    {"`plq_parents_of_image`", PARENTS_OF_IMAGE, 1.0, 0, 1, NOTHING},
-    {"`plq_split`, 256 trees", SPLIT, 1.5, 0, 0, NOTHING},
-    {"`plq_join`, tree 256", JOIN, 1.5, 0, 0, NOTHING},
-    {"`plq_list`", LIST, 1.5, 0, 1, WALK},
+    {"`plq_check_image`", CHECK_IMAGE, ON_ALL(1.0), 0, 1, OPEN},
+    {"`plq_check_image`, metres", CHECK_METRES, {1.0, 0, 0, 1.0, 0, 0}, 0, 1, NOTHING},
+    {"`plq_check_image`, wrong sample", REFUSE_IMAGE, ON_ALL(1.5), 0, 1, NOTHING},
+    {"`plq_ask`, 256 mixed", ASK, ON_ALL(1.0), 0, 1, OPEN_AND_ANSWER},
+    {"the 256 answers alone", ASK, {0}, 1, 0, ANSWER},
+    {"`plq_ask`, 256 for metres", ASK_METRES, ON_ALL(1.0), 0, 1, NOTHING},
+    {"`plq_string_of_parents`", STRING_OF_PARENTS, ON_ALL(1.0), 0, 0, NOTHING},
+    {"`plq_parents_of_string`", PARENTS_OF_STRING, ON_ALL(1.0), 0, 0, NOTHING},
+    {"`plq_image_of_parents`", IMAGE_OF_PARENTS, ON_ALL(1.0), 0, 1, SAVE},
+    {"`plq_image_with_metres`", IMAGE_WITH_METRES, {1.25, 1.0, 1.25, 1.0, 1.25, 1.0}, 0, 1, NOTHING},
+    {"`plq_parents_of_image`", PARENTS_OF_IMAGE, ON_ALL(1.0), 0, 1, NOTHING},
+    {"`plq_metres_of_image`", METRES_OF_IMAGE, ON_ALL(1.0), 0, 1, NOTHING},
+    {"`plq_split`, 256 trees", SPLIT, ON_ALL(1.5), 0, 0, NOTHING},
+    {"`plq_join`, tree 256", JOIN, ON_ALL(1.5), 0, 0, NOTHING},
+    {"`plq_list`", LIST, ON_ALL(1.5), 0, 1, WALK},
 };
 
 enum { ROWS = sizeof rows / sizeof *rows };
@@ -128,8 +143,11 @@ struct tree {
     uint32_t n;
     uint32_t *parents;
     uint32_t joined_tree[PLQ_MOST_NODES / PLQ_MOST_TREES];
-    uint8_t image[PLQ_MOST_IMAGE_BYTES], refused[PLQ_MOST_IMAGE_BYTES], string[PACK_BYTES], pack[PACK_BYTES], pack_to_join[PACK_BYTES];
-    int32_t questions[LISTS][3 * PLQ_MOST_QUESTIONS];
+    uint8_t image[PLQ_MOST_TREE_IMAGE_BYTES], refused[PLQ_MOST_TREE_IMAGE_BYTES];
+    uint8_t string[PACK_BYTES], pack[PACK_BYTES], pack_to_join[PACK_BYTES];
+    int32_t questions[LISTS][3 * PLQ_MOST_QUESTIONS], for_metres[LISTS][3 * PLQ_MOST_QUESTIONS];
+    uint32_t *metres;
+    uint8_t *image_with_metres;
     struct request requests[CALLS];
     uint32_t listed; /* nodes that the listing has */
     void *peers[CONTESTANTS];
@@ -157,6 +175,16 @@ static void require(int fine, const char *what)
     exit(1);
 }
 
+static const uint8_t *image_for(const struct tree *tree, enum call call)
+{
+    return is_of_metres(call) ? tree->image_with_metres : tree->image;
+}
+
+static const int32_t *questions_for(const struct tree *tree, enum call call, uint32_t list)
+{
+    return call == ASK_METRES ? tree->for_metres[list] : tree->questions[list];
+}
+
 /* The node with the most nodes below it among those that can be listed: the root, unless the tree is too deep. */
 static uint32_t node_to_list(const uint32_t *parents, uint32_t n)
 {
@@ -173,7 +201,7 @@ static uint32_t node_to_list(const uint32_t *parents, uint32_t n)
     return best;
 }
 
-/* Mixed questions that have an answer: children that are there, siblings up to three places away. */
+/* Mixed questions that have an answer: children that are there, siblings up to three places away; and questions for metres. */
 static void make_questions(struct tree *tree, uint64_t seed)
 {
     struct chance chance = {seed};
@@ -186,6 +214,11 @@ static void make_questions(struct tree *tree, uint64_t seed)
             while (q[0] == PLQ_CHILD_NUMBER && degree[q[1]] == 0);
             if (q[0] == PLQ_CHILD_NUMBER) q[2] = 1 + (int32_t)below(&chance, degree[q[1]]);
             if (q[0] == PLQ_SIBLING_AT) q[2] = (int32_t)below(&chance, 7) - 3;
+        }
+    for (uint32_t list = 0; list < LISTS; list++)
+        for (int32_t *q = tree->for_metres[list]; q < tree->for_metres[list] + 3 * PLQ_MOST_QUESTIONS; q += 3) {
+            q[0] = PLQ_METRES;
+            q[1] = 1 + (int32_t)below(&chance, tree->n);
         }
     free(degree);
 }
@@ -233,17 +266,25 @@ static struct tree *new_tree(const struct kind *kind, uint64_t seed, const struc
     struct tree *tree = allocate(sizeof *tree);
     uint32_t n = tree->n = kind->n;
     tree->parents = allocate(n * sizeof *tree->parents);
+    tree->metres = allocate(n * sizeof *tree->metres);
+    tree->image_with_metres = allocate(PLQ_MOST_IMAGE_BYTES);
     make_tree(kind->shape, n, seed, tree->parents);
+    make_metres(n, seed, tree->metres);
     struct request *r = tree->requests;
-    r[IMAGE_OF_PARENTS] = (struct request){.call = IMAGE_OF_PARENTS, .parents = tree->parents, .n = n, .room = PLQ_MOST_IMAGE_BYTES};
+    r[IMAGE_OF_PARENTS] = (struct request){.call = IMAGE_OF_PARENTS, .parents = tree->parents, .n = n, .room = PLQ_MOST_TREE_IMAGE_BYTES};
+    r[IMAGE_WITH_METRES] = (struct request){.call = IMAGE_WITH_METRES, .parents = tree->parents, .n = n, .metres = tree->metres,
+                                            .metres_count = n, .room = PLQ_MOST_IMAGE_BYTES};
     r[STRING_OF_PARENTS] = (struct request){.call = STRING_OF_PARENTS, .parents = tree->parents, .n = n, .room = PACK_BYTES};
     plq_answer image = make_call(&plain_o2, &r[IMAGE_OF_PARENTS], &(struct lent){.bytes = tree->image});
+    plq_answer with_metres = make_call(&plain_o2, &r[IMAGE_WITH_METRES], &(struct lent){.bytes = tree->image_with_metres});
     plq_answer string = make_call(&plain_o2, &r[STRING_OF_PARENTS], &(struct lent){.bytes = tree->string});
-    require(image.code == PLQ_DONE && string.code == PLQ_DONE, "a tree cannot be sealed");
-    const enum call of_image[] = {CHECK_IMAGE, ASK, PARENTS_OF_IMAGE, LIST};
-    for (size_t i = 0; i < sizeof of_image / sizeof *of_image; i++)
-        r[of_image[i]] = (struct request){.call = of_image[i], .bytes = tree->image, .nbytes = plq_image_bytes(tree->image), .room = 2 * (size_t)n};
-    r[ASK].numbers = 3 * PLQ_MOST_QUESTIONS;
+    require(image.code == PLQ_DONE && with_metres.code == PLQ_DONE && string.code == PLQ_DONE, "a tree cannot be sealed");
+    const enum call of_image[] = {CHECK_IMAGE, CHECK_METRES, ASK, ASK_METRES, PARENTS_OF_IMAGE, METRES_OF_IMAGE, LIST};
+    for (size_t i = 0; i < sizeof of_image / sizeof *of_image; i++) {
+        const uint8_t *bytes = image_for(tree, of_image[i]);
+        r[of_image[i]] = (struct request){.call = of_image[i], .bytes = bytes, .nbytes = plq_image_bytes(bytes), .room = 2 * (size_t)n};
+    }
+    r[ASK].numbers = r[ASK_METRES].numbers = 3 * PLQ_MOST_QUESTIONS;
     r[LIST].node = node_to_list(tree->parents, n);
     r[PARENTS_OF_STRING] =
         (struct request){.call = PARENTS_OF_STRING, .bytes = tree->string, .nbytes = (string.first + 7) / 8, .bits = string.first, .room = n};
@@ -276,6 +317,8 @@ static void free_bed(struct bed *bed)
         for (size_t i = 0; i < CONTESTANTS; i++)
             if (contestants[i].peer != NULL) contestants[i].peer->free(bed->trees[t]->peers[i]);
         free(bed->trees[t]->parents);
+        free(bed->trees[t]->metres);
+        free(bed->trees[t]->image_with_metres);
         free(bed->trees[t]);
     }
     free(bed->lent.bytes);
@@ -284,9 +327,9 @@ static void free_bed(struct bed *bed)
     free(bed);
 }
 
-static size_t blocks_of(const struct bed *bed)
+static size_t blocks_of(const uint8_t *image)
 {
-    return plq_image_bytes(bed->trees[0]->image) / PLQ_BLOCK_BYTES;
+    return plq_image_bytes(image) / PLQ_BLOCK_BYTES;
 }
 
 /* ---- do they all do the same? ---- */
@@ -313,8 +356,8 @@ static void compare_requests(struct comparison *comparison, const struct tree *t
 {
     for (enum call call = 0; call < CALLS; call++) {
         struct request request = tree->requests[call];
-        for (uint32_t list = 0; list < (call == ASK ? LISTS : 1); list++) {
-            request.questions = tree->questions[list];
+        for (uint32_t list = 0; list < (is_ask(call) ? LISTS : 1); list++) {
+            request.questions = questions_for(tree, call, list);
             compare_call(comparison, request);
         }
     }
@@ -323,12 +366,12 @@ static void compare_requests(struct comparison *comparison, const struct tree *t
 static uint64_t compare_all(struct bed *const beds[KINDS])
 {
     static const struct store *const stores[] = {&library, &plain_o2, &faster_o2, &plain_o3};
-    enum { SMALL_TREES = 60, MOST_SMALL = 300, MANY_DAMAGES = 16, FEW_DAMAGES = 2, RETIRED_CODE = 7 };
+    enum { BY_SQUARES = 60, SMALL_TREES = 63, MOST_SMALL = 300, MANY_DAMAGES = 16, FEW_DAMAGES = 2, RETIRED_CODE = 7 };
     uint32_t parents[MOST_SMALL];
     struct comparison comparison;
     begin_comparison(&comparison, stores, sizeof stores / sizeof *stores, SEED);
     for (uint32_t i = 0; i < SMALL_TREES; i++) {
-        uint32_t n = 1 + i * i % MOST_SMALL;
+        uint32_t n = i < BY_SQUARES ? 1 + i * i % MOST_SMALL : 125 + i - BY_SQUARES; /* the last: 126 metres fill a block */
         make_tree((enum shape)(i % 4), n, i, parents);
         compare_tree(&comparison, parents, n, MANY_DAMAGES);
     }
@@ -356,11 +399,11 @@ static double now_ns(void)
     return 1e9 * (double)t.tv_sec + (double)t.tv_nsec;
 }
 
-static struct tree *next_tree(struct bed *bed, const int32_t **questions)
+static struct tree *next_tree(struct bed *bed, enum call call, const int32_t **questions)
 {
     uint32_t turns = bed->kind->turns;
     struct tree *tree = bed->trees[bed->turn % turns];
-    *questions = tree->questions[bed->turn / turns % LISTS];
+    *questions = questions_for(tree, call, bed->turn / turns % LISTS);
     bed->turn++;
     return tree;
 }
@@ -368,10 +411,10 @@ static struct tree *next_tree(struct bed *bed, const int32_t **questions)
 static plq_answer call_once(struct bed *bed, const struct store *store, enum call call, size_t numbers)
 {
     const int32_t *questions;
-    struct tree *tree = next_tree(bed, &questions);
+    struct tree *tree = next_tree(bed, call, &questions);
     struct request r = tree->requests[call];
     struct lent lent = bed->lent;
-    if (call == ASK) {
+    if (is_ask(call)) {
         r.questions = questions;
         r.numbers = numbers;
     }
@@ -392,7 +435,7 @@ static void call_peer(struct bed *bed, size_t contestant, enum beside beside, ui
     const struct peer *peer = contestants[contestant].peer;
     for (uint32_t i = 0; i < times; i++) {
         const int32_t *questions;
-        struct tree *tree = next_tree(bed, &questions);
+        struct tree *tree = next_tree(bed, ASK, &questions);
         void *its_tree = tree->peers[contestant];
         if (beside == OPEN || beside == OPEN_AND_ANSWER) peer->open(its_tree);
         if (beside == ANSWER || beside == OPEN_AND_ANSWER) peer->answer(its_tree, questions, PLQ_MOST_QUESTIONS, bed->lent.numbers);
@@ -417,7 +460,7 @@ static int answers_alike(struct bed *bed, const struct store *store, const struc
 static int takes_part(struct bed *bed, size_t contestant, const struct row *row)
 {
     const struct contestant *who = &contestants[contestant];
-    if (who->store != NULL) return !is_earlier(who->store) || answers_alike(bed, who->store, row);
+    if (who->store != NULL) return !is_earlier(who->store) || (has_call(who->store, row->call) && answers_alike(bed, who->store, row));
     return row->beside != NOTHING && (row->beside != SAVE || who->peer->save != NULL);
 }
 
@@ -518,12 +561,12 @@ static void print_both(double middle, double of_least, const struct row *row)
     printf(" |");
 }
 
-static void print_kind(const struct bed *bed, const char *row)
+static void print_kind(const struct bed *bed, const char *row, const uint8_t *image)
 {
-    printf("| %s | %s, %u nodes | %zu |", row, name_of_shape(bed->kind->shape), bed->kind->n, blocks_of(bed));
+    printf("| %s | %s, %u nodes | %zu |", row, name_of_shape(bed->kind->shape), bed->kind->n, blocks_of(image));
 }
 
-/* What the named forms of sums and listing cost plain C on one bed. */
+/* What the named forms of sums, metres and listing cost plain C on one bed. */
 struct cost {
     double ratio, ns; /* time in the named form over that in the faster one, and the difference of the medians */
 };
@@ -542,15 +585,16 @@ static int print_row(struct bed *bed, const struct row *row, struct times *times
     uint32_t listed = 0;
     for (uint32_t t = 0; t < bed->kind->turns; t++) listed += bed->trees[t]->listed;
     snprintf(name, sizeof name, row->call == LIST ? "%s, %u nodes" : "%s", row->name, listed / bed->kind->turns);
-    print_kind(bed, name);
+    print_kind(bed, name, image_for(bed->trees[0], row->call));
     double library_least = least(times->ns[LIBRARY], times->rounds), ratio = ratio_of(times, LIBRARY, PLAIN_O2);
-    int missed = row->target != 0 && ratio >= row->target + 0.005; /* as it is printed */
+    double target = row->targets[bed->kind - kinds];
+    int missed = target != 0 && ratio >= target + 0.005; /* as it is printed */
     print_both(median(times->ns[LIBRARY], times->rounds) / 1000, library_least / 1000, row);
     print_both(ratio, library_least / least(times->ns[PLAIN_O2], times->rounds), row);
-    if (row->target == 0)
+    if (target == 0)
         printf(" | |");
     else
-        printf(" %.1f | %s |", row->target, missed ? "missed" : "met");
+        printf(" %.*f | %s |", 10 * target == (int)(10 * target) ? 1 : 2, target, missed ? "missed" : "met");
     for (size_t i = PLAIN_O2 + 1; i < CONTESTANTS; i++) {
         printf(" ");
         if (times->took_part[i]) print_number(ratio_of(times, LIBRARY, i));
@@ -564,8 +608,8 @@ static int print_row(struct bed *bed, const struct row *row, struct times *times
 static void print_space(const struct bed *bed)
 {
     const struct tree *tree = bed->trees[0];
-    double bytes = PLQ_BLOCK_BYTES * (double)blocks_of(bed);
-    print_kind(bed, "space, bits a node");
+    double bytes = (double)plq_image_bytes(tree->image);
+    print_kind(bed, "space, bits a node", tree->image);
     printf(" ");
     print_number(8 * bytes / tree->n);
     printf(" | | | |");
@@ -611,7 +655,7 @@ static void print_table(uint32_t rounds)
     for (size_t row = 0; row < ROWS; row++)
         for (size_t k = 0; k < KINDS; k++) {
             missed += print_row(beds[k], &rows[row], &times);
-            targets += rows[row].target != 0;
+            targets += rows[row].targets[k] != 0;
             costs[row][k] = cost_of(&times);
         }
     for (size_t k = 0; k < KINDS; k++) {
@@ -646,7 +690,7 @@ static void repeat_call(const char *store, const char *call, const char *shape, 
         if (strcmp(name_of_call(c), call) == 0) the_call = c;
     for (size_t k = 0; k < KINDS; k++)
         if (strcmp(name_of_shape(kinds[k].shape), shape) == 0 && kinds[k].n == strtoul(nodes, NULL, 10)) kind = &kinds[k];
-    require(the_store != NULL && the_call != CALLS && kind != NULL, "no such store, call, or tree");
+    require(the_store != NULL && the_call != CALLS && kind != NULL && has_call(the_store, the_call), "no such store, call, or tree");
     struct bed *bed = new_bed(kind);
     call_store(bed, the_store, the_call, 3 * PLQ_MOST_QUESTIONS, (uint32_t)strtoul(times, NULL, 10));
     free_bed(bed);

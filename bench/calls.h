@@ -4,16 +4,49 @@
 
 #include "store.h"
 
-/* REFUSE_IMAGE is CHECK_IMAGE once more, for an image that is to be refused: what is timed of it is kept apart. */
-enum call { CHECK_IMAGE, REFUSE_IMAGE, ASK, STRING_OF_PARENTS, PARENTS_OF_STRING, IMAGE_OF_PARENTS, PARENTS_OF_IMAGE, SPLIT, JOIN, LIST, CALLS };
+/* Some are others once more, so that what is timed of them is kept apart: CHECK_METRES and ASK_METRES are CHECK_IMAGE and ASK
+ * for an image with metres and questions for them, REFUSE_IMAGE is CHECK_IMAGE for an image that is to be refused. */
+enum call {
+    CHECK_IMAGE,
+    CHECK_METRES,
+    REFUSE_IMAGE,
+    ASK,
+    ASK_METRES,
+    STRING_OF_PARENTS,
+    PARENTS_OF_STRING,
+    IMAGE_OF_PARENTS,
+    IMAGE_WITH_METRES,
+    PARENTS_OF_IMAGE,
+    METRES_OF_IMAGE,
+    SPLIT,
+    JOIN,
+    LIST,
+    CALLS
+};
 
 const char *name_of_call(enum call call);
+
+static inline int is_check(enum call call)
+{
+    return call == CHECK_IMAGE || call == CHECK_METRES || call == REFUSE_IMAGE;
+}
+
+static inline int is_ask(enum call call)
+{
+    return call == ASK || call == ASK_METRES;
+}
+
+/* Is it about an image with metres? */
+static inline int is_of_metres(enum call call)
+{
+    return call == CHECK_METRES || call == ASK_METRES || call == IMAGE_WITH_METRES || call == METRES_OF_IMAGE;
+}
 
 /* What a call is given; a call takes from it what parlaqen.h says it takes. */
 struct request {
     enum call call;
-    const uint32_t *parents;
-    size_t n;
+    const uint32_t *parents, *metres;
+    size_t n, metres_count;
     const uint8_t *bytes; /* an image, a string or a pack */
     size_t nbytes, bits, trees;
     const int32_t *questions;
@@ -25,9 +58,12 @@ struct request {
 /* What a call may write to. */
 struct lent {
     uint8_t *bytes;    /* strings, images; for join the pack itself */
-    uint32_t *numbers; /* parents, answers, pairs, starts */
+    uint32_t *numbers; /* parents, metres, answers, pairs, starts */
     uint32_t *second;  /* sizes */
 };
+
+/* Has the store this call? An earlier archive may have fewer. */
+int has_call(const struct store *store, enum call call);
 
 plq_answer make_call(const struct store *store, const struct request *request, const struct lent *lent);
 

@@ -8,7 +8,7 @@ enum {
     PACK_BYTES = (PLQ_MOST_BITS + 7) / 8,
     MOST_NUMBERS = 2 * PLQ_MOST_NODES,
     STRING_BITS = 4000, /* of R1 or R0 in one block of an image */
-    WORDS = 126, /* of payload in one block; as many samples */
+    WORDS = 126, /* of payload in one block; as many samples, as many metres */
     SAMPLE_STEP = 64,
     AFTER = 16, /* entries after each room, which must stay as they are */
     PATTERN = 0xA5
@@ -48,7 +48,7 @@ void end_comparison(struct comparison *c)
 
 static int writes_bytes(const struct request *r)
 {
-    return r->call == STRING_OF_PARENTS || r->call == IMAGE_OF_PARENTS || r->call == JOIN;
+    return r->call == STRING_OF_PARENTS || r->call == IMAGE_OF_PARENTS || r->call == IMAGE_WITH_METRES || r->call == JOIN;
 }
 
 /* How many bytes of each lent list are looked at, those after the room included. */
@@ -59,7 +59,7 @@ static size_t bytes_lent(const struct request *r)
 
 static size_t numbers_lent(const struct request *r)
 {
-    return writes_bytes(r) || r->call == CHECK_IMAGE || r->call == REFUSE_IMAGE ? 0 : (r->room + AFTER) * sizeof(uint32_t);
+    return writes_bytes(r) || is_check(r->call) ? 0 : (r->room + AFTER) * sizeof(uint32_t);
 }
 
 static size_t second_lent(const struct request *r)
@@ -138,13 +138,49 @@ static void reseal(uint8_t *image, size_t block)
     memcpy(at + 4, &t, 4);
 }
 
+/* R1 or R0 of an image, the samples of one, or the metres: the first block, how many there are, and of the last how many bits of
+ * payload are in use, the count of earlier ones included. */
+struct part {
+    uint32_t first, blocks, used;
+};
+
+/* A part of `all` bits or words after the part before it, `each` to a block, each of them `bits` long, after the first `count` bits. */
+static struct part part_of(const struct part *before, uint32_t all, uint32_t each, uint32_t bits, uint32_t count)
+{
+    return (struct part){before->first + before->blocks, (all + each - 1) / each, count + bits * ((all - 1) % each + 1)};
+}
+
+enum { R1, R0, SAMPLES1, SAMPLES0, METRES, PARTS };
+
+static int has_metres(const uint8_t *image)
+{
+    return image[0] == 2;
+}
+
+/* Where there are no metres, they have no blocks. */
+static void find_parts(const uint8_t *image, struct part parts[PARTS])
+{
+    const struct part header = {0, 1, 32 * WORDS};
+    uint32_t n, m;
+    memcpy(&n, image + 4, 4);
+    memcpy(&m, image + 8, 4);
+    uint32_t samples = (m + SAMPLE_STEP - 1) / SAMPLE_STEP;
+    parts[R1] = part_of(&header, n, STRING_BITS, 1, 32);
+    parts[R0] = part_of(&parts[R1], n + 1, STRING_BITS, 1, 32);
+    parts[SAMPLES1] = part_of(&parts[R0], samples, WORDS, 32, 0);
+    parts[SAMPLES0] = part_of(&parts[SAMPLES1], samples, WORDS, 32, 0);
+    parts[METRES] = part_of(&parts[SAMPLES0], has_metres(image) ? n : 0, WORDS, 32, 0);
+}
+
 static void compare_on_image(struct comparison *c, const uint8_t *image, size_t nbytes, uint32_t n)
 {
-    int32_t none[3] = {0};
     uint32_t node = 1 + below(&c->chance, n);
+    int32_t none[3] = {0}, of_metres[3] = {PLQ_METRES, (int32_t)node, 0};
     compare_call(c, (struct request){.call = CHECK_IMAGE, .bytes = image, .nbytes = nbytes});
     compare_call(c, (struct request){.call = PARENTS_OF_IMAGE, .bytes = image, .nbytes = nbytes, .room = n});
+    compare_call(c, (struct request){.call = METRES_OF_IMAGE, .bytes = image, .nbytes = nbytes, .room = n});
     compare_call(c, (struct request){.call = ASK, .bytes = image, .nbytes = nbytes, .questions = none, .numbers = 3, .room = 1});
+    compare_call(c, (struct request){.call = ASK_METRES, .bytes = image, .nbytes = nbytes, .questions = of_metres, .numbers = 3, .room = 1});
     compare_call(c, (struct request){.call = LIST, .bytes = image, .nbytes = nbytes, .node = node, .room = 2 * (size_t)n});
 }
 
@@ -152,17 +188,24 @@ static void compare_damaged_images(struct comparison *c, const uint8_t *image, s
 {
     uint8_t *copy = allocate(PLQ_MOST_IMAGE_BYTES + PLQ_BLOCK_BYTES);
     uint32_t blocks = (uint32_t)(nbytes / PLQ_BLOCK_BYTES);
+    struct part parts[PARTS];
+    find_parts(image, parts);
     memset(copy, 0, PLQ_MOST_IMAGE_BYTES + PLQ_BLOCK_BYTES);
     memcpy(copy, image, nbytes);
     const size_t sizes[] = {0, 1, PLQ_BLOCK_BYTES, nbytes - PLQ_BLOCK_BYTES, nbytes - 1, nbytes + 1, nbytes + PLQ_BLOCK_BYTES};
     for (size_t i = 0; i < sizeof sizes / sizeof *sizes; i++) compare_on_image(c, copy, sizes[i], n);
+    /* blocks of zeros after it, but with right sums; the second length may cut an image with metres */
+    for (size_t b = blocks; b <= PLQ_MOST_IMAGE_BYTES / PLQ_BLOCK_BYTES; b++) reseal(copy, b);
+    const size_t lengths[] = {nbytes + PLQ_BLOCK_BYTES, PLQ_MOST_TREE_IMAGE_BYTES + PLQ_BLOCK_BYTES, PLQ_MOST_IMAGE_BYTES,
+                              PLQ_MOST_IMAGE_BYTES + PLQ_BLOCK_BYTES};
+    for (size_t i = 0; i < sizeof lengths / sizeof *lengths; i++) compare_on_image(c, copy, lengths[i], n);
     for (uint32_t i = 0; i < damages; i++) {
-        uint32_t block = below(&c->chance, blocks);
+        uint32_t block = below(&c->chance, i / 4 % 2 == 0 ? parts[METRES].first : blocks); /* most blocks may be those of metres */
         uint8_t *damaged = copy + PLQ_BLOCK_BYTES * (size_t)block;
         memcpy(copy, image, nbytes);
         switch (i % 4) {
         case 0: flip_bit(c, damaged, 8 * PLQ_BLOCK_BYTES); break; /* as a reader would meet it */
-        case 1: /* a number of the header, a count or a sample, off by a little */
+        case 1: /* a number of the header, a count, a sample or a node's metres, off by a little */
             if (block == 0) damaged += 4 * below(&c->chance, 4);
             *damaged = (uint8_t)(*damaged + 1 + below(&c->chance, 3));
             break;
@@ -180,37 +223,11 @@ static void compare_damaged_images(struct comparison *c, const uint8_t *image, s
 
 /* ---- images that are refused with a code and a place that are known beforehand ---- */
 
-/* R1 or R0 of an image, or the samples of one: the first block, how many there are, and of the last how many bits of payload
- * are in use, the count of earlier ones included. */
-struct part {
-    uint32_t first, blocks, used;
-};
-
-/* A part of `all` bits or words from block `first` on, `each` to a block, each of them `bits` long, after the first `count` bits. */
-static struct part part_of(uint32_t first, uint32_t all, uint32_t each, uint32_t bits, uint32_t count)
-{
-    return (struct part){first, (all + each - 1) / each, count + bits * ((all - 1) % each + 1)};
-}
-
-enum { R1, R0, SAMPLES1, SAMPLES0, PARTS };
-
-static void find_parts(const uint8_t *image, struct part parts[PARTS])
-{
-    uint32_t n, m;
-    memcpy(&n, image + 4, 4);
-    memcpy(&m, image + 8, 4);
-    uint32_t samples = (m + SAMPLE_STEP - 1) / SAMPLE_STEP;
-    parts[R1] = part_of(1, n, STRING_BITS, 1, 32);
-    parts[R0] = part_of(parts[R1].first + parts[R1].blocks, n + 1, STRING_BITS, 1, 32);
-    parts[SAMPLES1] = part_of(parts[R0].first + parts[R0].blocks, samples, WORDS, 32, 0);
-    parts[SAMPLES0] = part_of(parts[SAMPLES1].first + parts[SAMPLES1].blocks, samples, WORDS, 32, 0);
-}
-
 struct fault {
     uint32_t code, place;
 };
 
-/* In the order of their codes. */
+/* In the order of their codes. There is none in metres: every number is one. */
 enum { VERSION, HEADER, STRING, COUNT, UNUSED, SAMPLE, OTHER_SAMPLE, FAULTS };
 
 static void write_word(uint8_t *image, uint32_t block, uint32_t word, uint32_t value)
@@ -236,10 +253,20 @@ uint32_t break_sample(struct chance *chance, uint8_t *image)
     return block;
 }
 
-/* Numbers that no tree has with the rest of them, whatever the rest is, or a reserved word. */
+/* A version that there is not. */
+static void break_version(struct chance *chance, uint8_t *image)
+{
+    static const uint32_t versions[] = {0, 3, 4, 5, 0x101, 0x102, 0x10001, UINT32_MAX};
+    write_word(image, 0, 0, versions[below(chance, sizeof versions / sizeof *versions)]);
+}
+
+/* Numbers that no tree has with the rest of them, whatever the rest is, or a reserved word. Where the version is still one that
+ * there is, it may become the other one. */
 static void break_header(struct chance *chance, uint8_t *image, uint32_t n, uint32_t blocks)
 {
-    switch (below(chance, 8)) {
+    uint32_t version;
+    memcpy(&version, image, 4);
+    switch (below(chance, version == 1 || version == 2 ? 9 : 8)) {
     case 0: write_word(image, 0, 1, 0); break;
     case 1: write_word(image, 0, 1, PLQ_MOST_NODES + 1 + below(chance, 3)); break;
     case 2: write_word(image, 0, 2, 0); break;
@@ -247,7 +274,8 @@ static void break_header(struct chance *chance, uint8_t *image, uint32_t n, uint
     case 4: write_word(image, 0, 2, n == 1 ? 2 : 1); break;
     case 5: write_word(image, 0, 3, blocks - 1); break;
     case 6: write_word(image, 0, 3, blocks + (below(chance, 2) == 0 ? 1 : 256)); break;
-    default: write_word(image, 0, 4 + below(chance, WORDS - 4), 1 + below(chance, 2)); break;
+    case 7: write_word(image, 0, 4 + below(chance, WORDS - 4), 1 + below(chance, 2)); break;
+    default: write_word(image, 0, 0, 3 - version); break;
     }
 }
 
@@ -259,7 +287,7 @@ static struct fault make_fault(struct comparison *c, uint8_t *image, const struc
     const struct part *part = &parts[below(&c->chance, 2)];
     switch (kind) {
     case VERSION:
-        raise_word(&c->chance, image, 0, 0);
+        break_version(&c->chance, image);
         fault.code = PLQ_OTHER_VERSION;
         break;
     case HEADER:
@@ -279,7 +307,7 @@ static struct fault make_fault(struct comparison *c, uint8_t *image, const struc
         break;
     case UNUSED: /* not all parts fill their last block: where R1 does, R0 does not */
         part = &parts[below(&c->chance, PARTS)];
-        if (part->used == 32 * WORDS) part = &parts[parts[R1].used == 32 * WORDS ? R0 : R1];
+        if (part->blocks == 0 || part->used == 32 * WORDS) part = &parts[parts[R1].used == 32 * WORDS ? R0 : R1];
         fault.place = block = part->first + part->blocks - 1;
         at = part->used + below(&c->chance, below(&c->chance, 2) ? 1 : 32 * WORDS - part->used);
         image[PLQ_BLOCK_BYTES * (size_t)block + at / 8] |= (uint8_t)(0x80 >> at % 8);
@@ -365,30 +393,38 @@ static void compare_strings(struct comparison *c, const uint8_t *string, size_t 
 
 static void compare_parents(struct comparison *c, const uint32_t *parents, uint32_t n, const uint8_t *pack, size_t bits, size_t trees, uint32_t damages)
 {
-    uint32_t *copy = allocate((PLQ_MOST_NODES + 1) * sizeof *copy);
+    uint32_t *copy = allocate((PLQ_MOST_NODES + 1) * sizeof *copy), *metres = allocate((PLQ_MOST_NODES + 2) * sizeof *metres);
     size_t nbytes = (bits + 7) / 8;
     memset(copy, 0, (PLQ_MOST_NODES + 1) * sizeof *copy);
     memcpy(copy, parents, n * sizeof *copy);
+    make_metres(PLQ_MOST_NODES + 2, n, metres);
     for (uint32_t i = 0; i < damages; i++) {
         size_t used = i == 0 ? 0 : i == 1 ? PLQ_MOST_NODES + 1 : n;
         uint32_t at = below(&c->chance, n), before = copy[at];
         if (i > 2) copy[at] = i % 4 == 0 ? below(&c->chance, n + 2) : before - 2 + below(&c->chance, 5);
         compare_call(c, (struct request){.call = STRING_OF_PARENTS, .parents = copy, .n = used, .room = PACK_BYTES});
-        compare_call(c, (struct request){.call = IMAGE_OF_PARENTS, .parents = copy, .n = used, .room = PLQ_MOST_IMAGE_BYTES});
+        compare_call(c, (struct request){.call = IMAGE_OF_PARENTS, .parents = copy, .n = used, .room = PLQ_MOST_TREE_IMAGE_BYTES});
+        struct request with_metres = {.call = IMAGE_WITH_METRES, .parents = copy, .n = used, .metres = metres, .metres_count = used,
+                                      .room = PLQ_IMAGE_ROOM(n) + PLQ_METRES_BYTES(n)};
+        compare_call(c, with_metres);
+        with_metres.metres_count = used == 0 || below(&c->chance, 2) == 0 ? used + 1 : below(&c->chance, 2) == 0 ? used - 1 : 0;
+        compare_call(c, with_metres);
         compare_call(c, (struct request){.call = JOIN, .bytes = pack, .nbytes = nbytes, .bits = bits, .trees = trees, .parents = copy, .n = used});
         copy[at] = before;
     }
     free(copy);
+    free(metres);
 }
 
 static void compare_questions(struct comparison *c, const uint8_t *image, size_t nbytes, uint32_t n, uint32_t damages)
 {
     static const int32_t extremes[] = {INT32_MIN, INT32_MIN + 1, -1, 0, 1, INT32_MAX};
+    uint32_t most_kind = has_metres(image) ? PLQ_METRES : PLQ_SIBLING_AT;
     int32_t questions[3 * PLQ_MOST_QUESTIONS + 3];
     struct request ask = {.call = ASK, .bytes = image, .nbytes = nbytes, .questions = questions, .room = PLQ_MOST_QUESTIONS};
     for (uint32_t i = 0; i < damages; i++) {
         for (uint32_t k = 0; k <= PLQ_MOST_QUESTIONS; k++) {
-            int32_t kind = 1 + (int32_t)below(&c->chance, 10), argument = 0;
+            int32_t kind = 1 + (int32_t)below(&c->chance, most_kind), argument = 0;
             if (kind == PLQ_CHILD_NUMBER || kind == PLQ_SIBLING_AT)
                 argument = below(&c->chance, 8) == 0 ? extremes[below(&c->chance, 6)] : (int32_t)below(&c->chance, 12) - 6;
             questions[3 * k] = kind;
@@ -397,6 +433,7 @@ static void compare_questions(struct comparison *c, const uint8_t *image, size_t
         }
         if (i % 4 == 1) questions[below(&c->chance, 3 * PLQ_MOST_QUESTIONS)] = extremes[below(&c->chance, 6)];
         if (i % 4 == 2) questions[3 * below(&c->chance, PLQ_MOST_QUESTIONS) + 1] = (int32_t)n + 1;
+        if (i % 8 == 4) questions[3 * below(&c->chance, PLQ_MOST_QUESTIONS)] = PLQ_METRES + (int32_t)below(&c->chance, 2);
         ask.numbers = i % 4 == 3 ? below(&c->chance, 3 * PLQ_MOST_QUESTIONS + 4) : 3 * PLQ_MOST_QUESTIONS;
         ask.room = ask.numbers / 3;
         compare_rooms(c, ask);
@@ -408,29 +445,48 @@ static void compare_questions(struct comparison *c, const uint8_t *image, size_t
     }
 }
 
-void compare_tree(struct comparison *c, const uint32_t *parents, uint32_t n, uint32_t damages)
+/* Every call on the image that a request makes, without metres or with. */
+static void compare_images(struct comparison *c, struct request make, uint32_t damages)
 {
-    const struct store *first = c->stores[0];
-    uint8_t *image = allocate(PLQ_MOST_IMAGE_BYTES), *string = allocate(PACK_BYTES);
-    struct lent to_image = {image, NULL, NULL}, to_string = {string, NULL, NULL};
-    struct request make_image = {.call = IMAGE_OF_PARENTS, .parents = parents, .n = n, .room = PLQ_MOST_IMAGE_BYTES};
-    struct request make_string = {.call = STRING_OF_PARENTS, .parents = parents, .n = n, .room = (2 * (size_t)n + 8) / 8};
-    make_call(first, &make_image, &to_image);
-    make_call(first, &make_string, &to_string);
-    size_t nbytes = plq_image_bytes(image), bits = 2 * (size_t)n + 1;
-    compare_call(c, make_image);
-    make_image.room = nbytes;
-    compare_rooms(c, make_image);
-    compare_rooms(c, make_string);
+    uint8_t *image = allocate(make.room);
+    uint32_t n = (uint32_t)make.n;
+    compare_call(c, make);
+    make_call(c->stores[0], &make, &(struct lent){.bytes = image});
+    size_t nbytes = make.room = plq_image_bytes(image);
+    compare_rooms(c, make);
     compare_rooms(c, (struct request){.call = PARENTS_OF_IMAGE, .bytes = image, .nbytes = nbytes, .room = n});
-    compare_rooms(c, (struct request){.call = PARENTS_OF_STRING, .bytes = string, .nbytes = (bits + 7) / 8, .bits = bits, .room = n});
+    compare_rooms(c, (struct request){.call = METRES_OF_IMAGE, .bytes = image, .nbytes = nbytes, .room = n});
     compare_rooms(c, (struct request){.call = LIST, .bytes = image, .nbytes = nbytes, .node = 1, .room = 2 * (size_t)n});
     compare_on_image(c, image, nbytes, n);
     compare_damaged_images(c, image, nbytes, n, damages);
     compare_faults(c, image, nbytes, n, damages);
+    compare_questions(c, image, nbytes, n, damages);
+    free(image);
+}
+
+void compare_tree(struct comparison *c, const uint32_t *parents, uint32_t n, uint32_t damages)
+{
+    const struct store *first = c->stores[0];
+    uint32_t *metres = allocate(n * sizeof *metres);
+    make_metres(n, n, metres);
+    struct request make_image = {.call = IMAGE_OF_PARENTS, .parents = parents, .n = n, .room = PLQ_MOST_TREE_IMAGE_BYTES};
+    compare_images(c, make_image, damages);
+    make_image.call = IMAGE_WITH_METRES;
+    make_image.metres = metres;
+    make_image.metres_count = n;
+    make_image.room = PLQ_MOST_IMAGE_BYTES;
+    compare_images(c, make_image, damages);
+    free(metres);
+
+    uint8_t *string = allocate(PACK_BYTES);
+    struct lent to_string = {string, NULL, NULL};
+    struct request make_string = {.call = STRING_OF_PARENTS, .parents = parents, .n = n, .room = (2 * (size_t)n + 8) / 8};
+    make_call(first, &make_string, &to_string);
+    size_t bits = 2 * (size_t)n + 1;
+    compare_rooms(c, make_string);
+    compare_rooms(c, (struct request){.call = PARENTS_OF_STRING, .bytes = string, .nbytes = (bits + 7) / 8, .bits = bits, .room = n});
     compare_strings(c, string, bits, 1, parents, n, damages);
     compare_parents(c, parents, n, string, bits, 1, damages);
-    compare_questions(c, image, nbytes, n, damages);
 
     /* a pack of a few trees: this one after itself, as long as it fits */
     uint8_t *pack = allocate(PACK_BYTES + AFTER);
@@ -441,6 +497,5 @@ void compare_tree(struct comparison *c, const uint32_t *parents, uint32_t n, uin
         join.bits = joined.first;
     if (join.trees > 1) compare_strings(c, pack, join.bits, join.trees, parents, n, damages);
     free(pack);
-    free(image);
     free(string);
 }

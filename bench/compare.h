@@ -24,9 +24,9 @@ void end_comparison(struct comparison *comparison);
  * request's bytes. */
 void compare_call(struct comparison *comparison, struct request request);
 
-/* Makes every call on this tree: as it should be, with too little room, and on damaged images, strings, packs, parent lists and
- * questions, `damages` of each. Where the damage says beforehand with which code and place an image is to be refused, every
- * store must answer these. */
+/* Makes every call on this tree, sealed without metres and with: as it should be, with too little room, and on damaged images,
+ * strings, packs, parent lists and questions, `damages` of each. Where the damage says beforehand with which code and place an
+ * image is to be refused, every store must answer these. */
 void compare_tree(struct comparison *comparison, const uint32_t *parents, uint32_t n, uint32_t damages);
 
 /* Makes one sample of an image more than it should be, by chance one of those in its last block, and the sums of that block

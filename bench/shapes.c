@@ -107,3 +107,9 @@ void make_tree(enum shape shape, uint32_t n, uint64_t seed, uint32_t *parents)
         for (uint32_t k = 0; k < degrees[node - 1]; k++) parents[made++] = node;
     free(degrees);
 }
+
+void make_metres(uint32_t n, uint64_t seed, uint32_t *metres)
+{
+    struct chance chance = {seed};
+    for (uint32_t i = 0; i < n; i++) metres[i] = below(&chance, 16) > 0 ? below(&chance, UINT32_MAX) : 0 - below(&chance, 2);
+}

@@ -1,4 +1,5 @@
-/* Trees to measure on, as parent lists in level order. The same seed gives the same tree on every machine. */
+/* Trees to measure on, as parent lists in level order, and metres for their nodes. The same seed gives the same on every
+ * machine. */
 #ifndef BENCH_SHAPES_H
 #define BENCH_SHAPES_H
 
@@ -15,6 +16,9 @@ const char *name_of_shape(enum shape shape);
 
 /* Writes n parents. */
 void make_tree(enum shape shape, uint32_t n, uint64_t seed, uint32_t *parents);
+
+/* Writes n numbers of all 32 bits, now and then the least or the most there is. */
+void make_metres(uint32_t n, uint64_t seed, uint32_t *metres);
 
 /* Numbers by chance: a place in a fixed sequence. */
 struct chance {

@@ -1,8 +1,9 @@
 /* The plain C store. Compiled with -DSTORE=name -DNAME='"words"', the object offers `const struct store name`.
  *
- * Two things are here twice, first in the form that the specification names for the library too, then, where an option asks for
- * it, in a faster one:
+ * Three things are here twice, first in the form that is named for the library too, then, where an option asks for it, in a
+ * faster one:
  *   block sums    one loop over the words of a block; -DSTORE_SUMS_BY_LANES: four such chains side by side
+ *   metres        copied in one loop over the words of a block; -DSTORE_METRES_BY_MEMCPY: by memcpy
  *   the listing   calls itself on each child, leaves included, and reads the bits of a node where they are in the image;
  *                 -DSTORE_LIST_SKIPS_LEAVES: a loop that makes no call, over a copy of both strings without gaps
  *
@@ -23,12 +24,13 @@ enum {
     PAYLOAD = 504,        /* bytes of a block before its two sums */
     LEAST_BLOCKS = 5,
     MOST_BLOCKS = PLQ_MOST_IMAGE_BYTES / BLOCK,
-    VERSION = 1,
+    TREE_ALONE = 1,       /* the versions of an image */
+    WITH_METRES = 2,
     STRING_BYTES = 500,   /* bytes of R1 or R0 in one block, after its count */
     STRING_BITS = 8 * STRING_BYTES,
     STRING_WORDS = 63,    /* 64-bit words of a string in one block; of the last only the first half is the string's */
     STRING_BLOCKS = 17,   /* the most blocks of one string */
-    SAMPLES = 126,        /* in one block */
+    WORDS = 126,          /* of payload in one block: as many samples, as many metres */
     SAMPLE_STEP = 64,     /* every such one of a string has a sample */
     LEVELS = 64           /* the depths that a listing may have */
 };
@@ -206,21 +208,28 @@ struct bits {
 struct image {
     uint32_t n, m;
     struct bits r1, r0;
+    const uint8_t *metres; /* their blocks; null where there are none */
 };
 
 /* How many blocks each part takes. */
 struct layout {
-    uint32_t r1, r0, samples, sample_blocks, all;
+    uint32_t r1, r0, samples, sample_blocks, metre_blocks, all;
 };
 
-static struct layout layout_of(uint32_t n, uint32_t m)
+static bool known_version(uint32_t version)
+{
+    return version == TREE_ALONE || version == WITH_METRES;
+}
+
+static struct layout layout_of(uint32_t version, uint32_t n, uint32_t m)
 {
     struct layout lay;
     lay.r1 = (n + STRING_BITS - 1) / STRING_BITS;
     lay.r0 = n / STRING_BITS + 1;
     lay.samples = (m + SAMPLE_STEP - 1) / SAMPLE_STEP;
-    lay.sample_blocks = (lay.samples + SAMPLES - 1) / SAMPLES;
-    lay.all = 1 + lay.r1 + lay.r0 + 2 * lay.sample_blocks;
+    lay.sample_blocks = (lay.samples + WORDS - 1) / WORDS;
+    lay.metre_blocks = version == WITH_METRES ? (n + WORDS - 1) / WORDS : 0;
+    lay.all = 1 + lay.r1 + lay.r0 + 2 * lay.sample_blocks + lay.metre_blocks;
     return lay;
 }
 
@@ -234,9 +243,10 @@ static uint32_t count_before(const struct bits *r, uint32_t block)
     return load32(r->blocks + BLOCK * block);
 }
 
-static uint32_t sample(const uint8_t *samples, uint32_t k)
+/* Number k, from 0, of a list in its blocks, which has samples or metres. */
+static uint32_t listed(const uint8_t *list, uint32_t k)
 {
-    return load32(samples + BLOCK * (k / SAMPLES) + 4 * (k % SAMPLES));
+    return load32(list + BLOCK * (k / WORDS) + 4 * (k % WORDS));
 }
 
 /* Bit i, from 1, of a string in an image. */
@@ -280,7 +290,7 @@ static bool samples_right(const uint8_t *string, uint32_t first, const uint32_t 
 {
     uint32_t wrong = 0, k = *next, end = (before[STRING_WORDS] + SAMPLE_STEP - 1) / SAMPLE_STEP;
     for (; k < end; k++) {
-        uint32_t at = sample(samples, k) - first;
+        uint32_t at = listed(samples, k) - first;
         if (at >= STRING_BITS) return false;
         uint64_t upto = load_bits(string + at / 64 * 8) >> (63 - at % 64);
         wrong |= (before[at / 64] + ones(upto)) ^ (SAMPLE_STEP * k + 1);
@@ -329,18 +339,29 @@ static bool ends_in_one(const struct bits *r, uint32_t bits)
     return bit_at(string, used - 1) && !leftover_set(string, used) && all_zero(string + bytes_of(used), string + STRING_BYTES);
 }
 
+/* Is nothing after the last of `count` numbers in the blocks of their list? */
+static bool list_ends(const uint8_t *list, uint32_t blocks, uint32_t count)
+{
+    const uint8_t *last = list + BLOCK * (blocks - 1);
+    return all_zero(last + 4 * ((count - 1) % WORDS + 1), last + PAYLOAD);
+}
+
 static bool samples_end(const uint8_t *samples, const struct layout *lay)
 {
-    const uint8_t *last = samples + BLOCK * (lay->sample_blocks - 1);
-    return all_zero(last + 4 * ((lay->samples - 1) % SAMPLES + 1), last + PAYLOAD);
+    return list_ends(samples, lay->sample_blocks, lay->samples);
+}
+
+static bool metres_end(const struct image *im, const struct layout *lay)
+{
+    return im->metres == NULL || list_ends(im->metres, lay->metre_blocks, im->n);
 }
 
 /* Everything after the sums. */
 static bool some_tree_gives(const uint8_t *bytes, uint32_t blocks, struct image *im)
 {
-    uint32_t n = load32(bytes + 4), m = load32(bytes + 8);
-    if (load32(bytes) != VERSION || n < 1 || n > PLQ_MOST_NODES || m < 1 || m > n || load32(bytes + 12) != blocks) return false;
-    struct layout lay = layout_of(n, m);
+    uint32_t version = load32(bytes), n = load32(bytes + 4), m = load32(bytes + 8);
+    if (!known_version(version) || n < 1 || n > PLQ_MOST_NODES || m < 1 || m > n || load32(bytes + 12) != blocks) return false;
+    struct layout lay = layout_of(version, n, m);
     if (lay.all != blocks || !all_zero(bytes + 16, bytes + PAYLOAD)) return false;
     im->n = n;
     im->m = m;
@@ -350,18 +371,19 @@ static bool some_tree_gives(const uint8_t *bytes, uint32_t blocks, struct image 
     im->r0.blocks = im->r1.blocks + BLOCK * lay.r1;
     im->r1.samples = im->r0.blocks + BLOCK * lay.r0;
     im->r0.samples = im->r1.samples + BLOCK * lay.sample_blocks;
+    im->metres = version == WITH_METRES ? im->r0.samples + BLOCK * lay.sample_blocks : NULL;
     return has_one(&im->r1, 1) && ends_in_one(&im->r1, n) && ends_in_one(&im->r0, n + 1) && samples_end(im->r1.samples, &lay)
-        && samples_end(im->r0.samples, &lay) && strings_right(im, &lay);
+        && samples_end(im->r0.samples, &lay) && metres_end(im, &lay) && strings_right(im, &lay);
 }
 
 /* ---- what is wrong with an image that no tree gives ---- */
 
-/* Has some tree whose image is of so many blocks the rest of this header? */
+/* Has some tree whose image is of this version, which is a known one, and of so many blocks the rest of this header? */
 static bool header_right(const uint8_t *bytes, uint32_t blocks)
 {
     uint32_t n = load32(bytes + 4), m = load32(bytes + 8);
     if (n < 1 || n > PLQ_MOST_NODES || m < (n == 1 ? 1 : 2) || m > n) return false;
-    return load32(bytes + 12) == blocks && layout_of(n, m).all == blocks && all_zero(bytes + 16, bytes + PAYLOAD);
+    return load32(bytes + 12) == blocks && layout_of(load32(bytes), n, m).all == blocks && all_zero(bytes + 16, bytes + PAYLOAD);
 }
 
 /* Copies the last block of a string of `bits` bits without what is after the string. Answers whether nothing is. */
@@ -381,7 +403,7 @@ static uint32_t first_wrong_sample(const uint8_t *string, uint32_t first, const 
 {
     uint32_t end = (before[STRING_WORDS] + SAMPLE_STEP - 1) / SAMPLE_STEP;
     for (; k < end; k++) {
-        uint32_t at = sample(samples, k) - first;
+        uint32_t at = listed(samples, k) - first;
         if (at >= STRING_BITS) break;
         uint64_t upto = load_bits(string + at / 64 * 8) >> (63 - at % 64);
         if (!(upto & 1) || before[at / 64] + ones(upto) != SAMPLE_STEP * k + 1) break;
@@ -399,17 +421,19 @@ static uint32_t lower(uint32_t a, uint32_t b)
  * right. A function of its own for the compiler too, so that a right image takes as long as without it. */
 static __attribute__((noinline)) plq_answer refusal_of(const uint8_t *bytes, uint32_t blocks, const struct image *im)
 {
-    if (load32(bytes) != VERSION) return refused(PLQ_OTHER_VERSION, 0);
+    if (!known_version(load32(bytes))) return refused(PLQ_OTHER_VERSION, 0);
     if (!header_right(bytes, blocks)) return refused(PLQ_WRONG_HEADER, 0);
 
     static const uint8_t nothing[BLOCK];
     uint8_t last1[BLOCK], last0[BLOCK];
     uint32_t before1[STRING_WORDS + 1], before0[STRING_WORDS + 1];
     uint32_t c1 = 0, c0 = 0, next1 = 0, next0 = 0, n = im->n, m = im->m;
-    struct layout lay = layout_of(n, m);
+    struct layout lay = layout_of(load32(bytes), n, m);
     uint32_t r1 = 1, r0 = r1 + lay.r1, samples1 = r0 + lay.r0, samples0 = samples1 + lay.sample_blocks; /* the first block of each */
+    uint32_t metres = samples0 + lay.sample_blocks; /* in version 1 there are none, and this is the number of blocks */
     uint32_t count_wrong = blocks; /* the lowest block with a wrong count or with something in its unused payload */
-    if (!samples_end(im->r0.samples, &lay)) count_wrong = blocks - 1;
+    if (!metres_end(im, &lay)) count_wrong = blocks - 1;
+    if (!samples_end(im->r0.samples, &lay)) count_wrong = metres - 1;
     if (!samples_end(im->r1.samples, &lay)) count_wrong = samples0 - 1;
     if (!copy_last(last0, &im->r0, n + 1)) count_wrong = samples1 - 1;
     if (!copy_last(last1, &im->r1, n)) count_wrong = r0 - 1;
@@ -440,7 +464,7 @@ static __attribute__((noinline)) plq_answer refusal_of(const uint8_t *bytes, uin
     }
     if (c1 != m || c0 != m) return refused(PLQ_WRONG_STRINGS, r1);
     if (count_wrong < blocks) return refused(PLQ_WRONG_COUNTS, count_wrong);
-    return refused(PLQ_WRONG_SAMPLES, next1 < lay.samples ? samples1 + next1 / SAMPLES : samples0 + next0 / SAMPLES);
+    return refused(PLQ_WRONG_SAMPLES, next1 < lay.samples ? samples1 + next1 / WORDS : samples0 + next0 / WORDS);
 }
 
 static plq_answer check(const uint8_t *bytes, size_t nbytes, struct image *im)
@@ -475,7 +499,7 @@ static uint32_t place_of(const struct bits *r, uint32_t number)
 {
     if (number == 0) return 0;
     uint32_t k = (number - 1) / SAMPLE_STEP, need = number - SAMPLE_STEP * k;
-    uint32_t at = sample(r->samples, k) - 1, block = at / STRING_BITS, word = at % STRING_BITS / 64;
+    uint32_t at = listed(r->samples, k) - 1, block = at / STRING_BITS, word = at % STRING_BITS / 64;
     const uint8_t *string = string_of(r->blocks + BLOCK * block);
     uint64_t x = raw_word(string, word) & __builtin_bswap64(UINT64_MAX >> at % STRING_BITS % 64);
     if (block + 1 < r->nblocks && count_before(r, block + 1) < number) { /* the counts say in which later block */
@@ -561,6 +585,7 @@ static uint32_t answer(const struct image *im, int32_t kind, uint32_t x, int32_t
     case PLQ_CHILD_RANK: return x - one_before(&im->r1, x);
     case PLQ_CHILD_NUMBER: return child_number(im, x, argument);
     case PLQ_LEAF: return !has_one(&im->r0, x);
+    case PLQ_METRES: return listed(im->metres, x - 1);
     default: return sibling_at(im, x, argument);
     }
 }
@@ -568,7 +593,7 @@ static uint32_t answer(const struct image *im, int32_t kind, uint32_t x, int32_t
 static bool allowed(const struct image *im, const int32_t question[3])
 {
     int32_t kind = question[0], node = question[1];
-    return kind >= PLQ_PARENT && kind <= PLQ_SIBLING_AT && node >= 1 && (uint32_t)node <= im->n
+    return kind >= PLQ_PARENT && kind <= (im->metres == NULL ? PLQ_SIBLING_AT : PLQ_METRES) && node >= 1 && (uint32_t)node <= im->n
         && (question[2] == 0 || kind == PLQ_CHILD_NUMBER || kind == PLQ_SIBLING_AT);
 }
 
@@ -860,6 +885,16 @@ static plq_answer plain_join(uint8_t *bytes, size_t nbytes, size_t bits, size_t 
 
 /* ---- sealing and reading back ---- */
 
+/* Metres from a list to a block or back. */
+static void copy_words(uint8_t *to, const uint8_t *from, uint32_t count)
+{
+#ifndef STORE_METRES_BY_MEMCPY
+    for (uint32_t k = 0; k < count; k++) store32(to + 4 * k, load32(from + 4 * k));
+#else
+    memcpy(to, from, 4 * count);
+#endif
+}
+
 /* A string on its way into an image: words that follow each other without the counts and sums between. */
 struct words {
     uint64_t at[STRING_BLOCKS * STRING_BYTES / 8 + 1]; /* first bit on top; the words after the last are zero */
@@ -911,7 +946,7 @@ static void put_samples(uint8_t *blocks, const struct words *r, uint32_t bits)
         uint32_t here = ones(r->at[w]);
         if (count + here > SAMPLE_STEP * k) {
             uint32_t at = 64 * w + place_of_one(__builtin_bswap64(r->at[w]), SAMPLE_STEP * k + 1 - count) + 1;
-            store32(blocks + BLOCK * (k / SAMPLES) + 4 * (k % SAMPLES), at);
+            store32(blocks + BLOCK * (k / WORDS) + 4 * (k % WORDS), at);
             k++;
         }
         count += here;
@@ -931,21 +966,29 @@ static void put_blocks(uint8_t *blocks, uint32_t nblocks, struct words *r)
     }
 }
 
-static plq_answer plain_image_of_parents(const uint32_t *parents, size_t count, uint8_t *image, size_t room)
+/* Metres into their blocks, with zeros after the last. */
+static void put_metres(uint8_t *blocks, uint32_t nblocks, const uint32_t *metres, uint32_t n)
+{
+    memset(blocks + BLOCK * (nblocks - 1), 0, PAYLOAD);
+    for (uint32_t i = 0; i < n; i += WORDS, blocks += BLOCK) copy_words(blocks, (const uint8_t *)(metres + i), lower(WORDS, n - i));
+}
+
+/* The image of a tree, with metres or, where that is null, without. */
+static plq_answer seal(const uint32_t *parents, size_t count, const uint32_t *metres, uint8_t *image, size_t room)
 {
     struct words r1, r0;
     if (count < 1 || count > PLQ_MOST_NODES) return refused(PLQ_WRONG_SIZE, 0);
     size_t wrong = wrong_entry(parents, count);
     if (wrong != 0) return refused(PLQ_NOT_PARENTS, wrong);
-    uint32_t n = (uint32_t)count, m = make_r1(&r1, parents, n);
-    struct layout lay = layout_of(n, m);
+    uint32_t version = metres == NULL ? TREE_ALONE : WITH_METRES, n = (uint32_t)count, m = make_r1(&r1, parents, n);
+    struct layout lay = layout_of(version, n, m);
     if (room < (size_t)BLOCK * lay.all) return refused(PLQ_NO_ROOM, 0);
     make_r0(&r0, parents, n);
 
     uint8_t *blocks1 = image + BLOCK, *blocks0 = blocks1 + BLOCK * lay.r1;
     uint8_t *samples1 = blocks0 + BLOCK * lay.r0, *samples0 = samples1 + BLOCK * lay.sample_blocks;
     memset(image, 0, BLOCK);
-    store32(image, VERSION);
+    store32(image, version);
     store32(image + 4, n);
     store32(image + 8, m);
     store32(image + 12, lay.all);
@@ -954,8 +997,20 @@ static plq_answer plain_image_of_parents(const uint32_t *parents, size_t count, 
     put_samples(samples0, &r0, n + 1);
     put_blocks(blocks1, lay.r1, &r1);
     put_blocks(blocks0, lay.r0, &r0);
+    if (metres != NULL) put_metres(samples0 + BLOCK * lay.sample_blocks, lay.metre_blocks, metres, n);
     for (uint32_t b = 0; b < lay.all; b++) seal_block(image + BLOCK * b, b);
     return done(n, m);
+}
+
+static plq_answer plain_image_of_parents(const uint32_t *parents, size_t n, uint8_t *image, size_t room)
+{
+    return seal(parents, n, NULL, image, room);
+}
+
+static plq_answer plain_image_with_metres(const uint32_t *parents, size_t n, const uint32_t *metres, size_t metres_count, uint8_t *image, size_t room)
+{
+    if (metres_count != n) return refused(PLQ_WRONG_SIZE, 0);
+    return seal(parents, n, metres, image, room);
 }
 
 static plq_answer plain_parents_of_image(const uint8_t *image, size_t nbytes, uint32_t *parents, size_t room)
@@ -989,6 +1044,18 @@ static plq_answer plain_parents_of_image(const uint8_t *image, size_t nbytes, ui
                 parent += x >> 63;
             }
         }
+    return done(im.n, 0);
+}
+
+static plq_answer plain_metres_of_image(const uint8_t *image, size_t nbytes, uint32_t *metres, size_t room)
+{
+    struct image im;
+    plq_answer checked = check(image, nbytes, &im);
+    if (checked.code != PLQ_DONE) return checked;
+    if (im.metres == NULL) return refused(PLQ_NOT_ALLOWED, 1);
+    if (room < im.n) return refused(PLQ_NO_ROOM, 0);
+    const uint8_t *block = im.metres;
+    for (uint32_t i = 0; i < im.n; i += WORDS, block += BLOCK) copy_words((uint8_t *)(metres + i), block, lower(WORDS, im.n - i));
     return done(im.n, 0);
 }
 

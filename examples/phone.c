@@ -1,9 +1,9 @@
 /* What the phone does with a sealed diary.
  *
- *     phone CONTAINER [NODE]     the seasons and weeks of the diary, and what is around NODE
+ *     phone CONTAINER [NODE]     the seasons and weeks of the diary, and what is around NODE; metres if it has some
  *
  * 1. Lock. The lock is for reading, on a file beside the container; a writer waits for it, other readers do not.
- * 2. Copy. At most 27,136 bytes go into a buffer of this program. Nothing is parsed, checked or shown meanwhile.
+ * 2. Copy. At most 293,888 bytes go into a buffer of this program. Nothing is parsed, checked or shown meanwhile.
  * 3. Unlock, at once, also where copying failed. The lock was held for one read of one small file.
  * 4. Ask the copy. The check, the listing and the questions see the copy alone, so nobody can change it under them. It
  *    may be minutes until the owner has scrolled to the end, or the phone may go to sleep in the middle: the container
@@ -52,8 +52,9 @@ static int copy_container(const char *name, uint8_t *copy, size_t room, size_t *
     return 0;
 }
 
-/* A line for each season and week, with the number of weeks, runs and laps in it: all from one listing. */
-static int show_seasons(const uint8_t *image, size_t size)
+/* A line for each season and week, with the number of weeks, runs and laps in it: all from one listing. `metres` has
+ * those of node x at x - 1, and is NULL where the diary has none. */
+static int show_seasons(const uint8_t *image, size_t size, const uint32_t *metres)
 {
     static uint32_t pairs[PLQ_LISTING_NUMBERS(PLQ_MOST_NODES)];
     plq_answer listed = plq_list(image, size, 1, pairs, PLQ_LISTING_NUMBERS(PLQ_MOST_NODES));
@@ -69,13 +70,16 @@ static int show_seasons(const uint8_t *image, size_t size)
             printf("season, node %u: weeks %u, ", (unsigned)node, below[WEEK]);
         else
             printf("  week, node %u: ", (unsigned)node);
-        printf("runs %u, laps %u\n", below[RUN], below[LAP]);
+        printf("runs %u, laps %u", below[RUN], below[LAP]);
+        if (metres) printf(", metres %u", (unsigned)metres[node - 1]);
+        printf("\n");
     }
     return 0;
 }
 
-/* All that is asked of one node goes into one call, which makes the whole check once. */
-static int show_around(const uint8_t *image, size_t size, int32_t node)
+/* All that is asked of one node goes into one call, which makes the whole check once. A question for metres is not
+ * allowed where there are none, so it is the last and is then left out. */
+static int show_around(const uint8_t *image, size_t size, int32_t node, int has_metres)
 {
     static const struct {
         const char *name;
@@ -92,17 +96,19 @@ static int show_around(const uint8_t *image, size_t size, int32_t node)
         {"previous sibling", PLQ_PREVIOUS_SIBLING, 0, 1},
         {"next sibling", PLQ_NEXT_SIBLING, 0, 1},
         {"sibling two to the left", PLQ_SIBLING_AT, -2, 1},
+        {"metres", PLQ_METRES, 0, 0},
     };
     enum { COUNT = sizeof asked / sizeof *asked };
     plq_question questions[COUNT];
     uint32_t answers[COUNT];
+    size_t count = has_metres ? COUNT : COUNT - 1;
 
-    for (size_t i = 0; i < COUNT; i++) questions[i] = (plq_question){asked[i].kind, node, asked[i].argument};
-    plq_answer done = plq_ask_questions(image, size, questions, COUNT, answers, COUNT);
+    for (size_t i = 0; i < count; i++) questions[i] = (plq_question){asked[i].kind, node, asked[i].argument};
+    plq_answer done = plq_ask_questions(image, size, questions, count, answers, COUNT);
     if (done.code != PLQ_DONE) return refused("the questions", done);
 
     printf("node %d\n", (int)node);
-    for (size_t i = 0; i < COUNT; i++)
+    for (size_t i = 0; i < count; i++)
         if (asked[i].names_a_node && answers[i] == 0)
             printf("  %s: none\n", asked[i].name);
         else
@@ -113,6 +119,7 @@ static int show_around(const uint8_t *image, size_t size, int32_t node)
 int main(int words, char **word)
 {
     static uint8_t copy[PLQ_MOST_IMAGE_BYTES + 1]; /* one more, so that a file that is too long is refused as such */
+    static uint32_t metres[PLQ_MOST_NODES];
     long node = 1;
     char *end = NULL;
 
@@ -130,7 +137,12 @@ int main(int words, char **word)
     if (checked.code != PLQ_DONE) return refused(word[1], checked);
     unsigned nodes = checked.first, with_children = checked.second - 1;
     printf("a diary of %u nodes, %u of them with others below\n", nodes, with_children);
-    status = show_seasons(copy, size);
-    if (status == 0) status = show_around(copy, size, (int32_t)node);
+
+    /* no metres are no fault: where there are none nothing is shown, and not 0 */
+    plq_answer measured = plq_metres_of_image(copy, size, metres, PLQ_MOST_NODES);
+    int has_metres = measured.code != PLQ_NOT_ALLOWED;
+    if (has_metres && measured.code != PLQ_DONE) return refused("the metres", measured);
+    status = show_seasons(copy, size, has_metres ? metres : NULL);
+    if (status == 0) status = show_around(copy, size, (int32_t)node, has_metres);
     return status != 0 ? status : shown();
 }

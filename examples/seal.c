@@ -1,28 +1,29 @@
-/* Seals a diary: reads its parent numbers as text and writes the image.
+/* Seals a diary: reads its parent numbers, and its metres if it has some, as text and writes the image.
  *
- *     seal [DIARY [CONTAINER]]     from standard input and to standard output where a name is left out
+ *     seal [-m METRES] [DIARY [CONTAINER]]     from standard input and to standard output where a name is left out
  *
- * The text has the parent of each node in level order, with blanks between the numbers; from # to the end of a line
- * is a comment.
+ * DIARY has the parent of each node in level order, and METRES the metres of each in the same order, with blanks
+ * between the numbers; from # to the end of a line is a comment. Without METRES the image has none, which is not 0
+ * metres: a reader is told that there are none.
  *
  * A container is replaced and never changed: the image goes to a new file, CONTAINER.new, that file is brought to the
  * disk, and only then a rename gives it the container's name. A rename happens or does not happen. So whoever ends this
  * program, at whatever moment, leaves the old diary whole or the new one, and so does a loss of power. CONTAINER.new
  * belongs to the holder of the lock: what a killed program left there is written over by the next one.
  *
- * The image is made before the lock is taken, and the lock is held while at most 27,136 bytes are written, brought to
+ * The image is made before the lock is taken, and the lock is held while at most 293,888 bytes are written, brought to
  * the disk and renamed. So this program replaces whatever is there. One that makes its diary from the one in the
  * container must hold the lock from reading to renaming, or compare under the lock, and begin again if the container
  * is no longer what it read: else what another one sealed in between is lost.
- * Exit status: 0 sealed, 1 refused by the library, 2 no parent numbers could be read, or the container is as it was,
- * 3 the container was replaced, but a loss of power may undo it. */
+ * Exit status: 0 sealed, 1 refused by the library, 2 no numbers could be read, or the container is as it was, 3 the
+ * container was replaced, but a loss of power may undo it. */
 #define _DEFAULT_SOURCE
 #include "container.h"
 #include "refusal.h"
 #include <ctype.h>
 #include <sys/stat.h>
 
-enum { ROOM = PLQ_MOST_NODES + 1 }; /* one too many, so that a diary that is too large is refused by the library */
+enum { ROOM = PLQ_MOST_NODES + 1 }; /* one too many, so that a list that is too long is refused by the library */
 
 static int failed(const char *what)
 {
@@ -44,7 +45,7 @@ static int next_of_text(FILE *text, unsigned *line)
 }
 
 /* Reads up to ROOM numbers; 0, or the exit status after a message. */
-static int read_parents(const char *name, FILE *text, uint32_t *parents, size_t *count)
+static int read_numbers(const char *name, FILE *text, uint32_t *numbers, size_t *count)
 {
     unsigned line = 1;
     int c = next_of_text(text, &line);
@@ -57,11 +58,20 @@ static int read_parents(const char *name, FILE *text, uint32_t *parents, size_t 
             fprintf(stderr, "%s: line %u: no number from 0 to %u\n", name, line, UINT32_MAX);
             return 2;
         }
-        parents[*count] = (uint32_t)number;
+        numbers[*count] = (uint32_t)number;
         if (c != EOF) ungetc(c, text);
         c = next_of_text(text, &line);
     }
     return ferror(text) ? failed(name) : 0;
+}
+
+static int read_file(const char *name, uint32_t *numbers, size_t *count)
+{
+    FILE *text = fopen(name, "r");
+    if (!text) return failed(name);
+    int status = read_numbers(name, text, numbers, count);
+    fclose(text);
+    return status;
 }
 
 static int write_all(int file, const uint8_t *bytes, size_t count)
@@ -148,24 +158,25 @@ static int replace_container(const char *container, const uint8_t *image, size_t
 
 int main(int words, char **word)
 {
-    static uint32_t parents[ROOM];
+    static uint32_t parents[ROOM], metres[ROOM];
     static uint8_t image[PLQ_MOST_IMAGE_BYTES];
-    size_t count;
+    size_t nodes, measured = 0;
+    int with_metres = words > 1 && strcmp(word[1], "-m") == 0;
+    int first = with_metres ? 3 : 1; /* the word that names the diary, if it is there */
 
-    if (words > 3) {
-        fputs("usage: seal [DIARY [CONTAINER]]\n", stderr);
+    if (words < first || words > first + 2) {
+        fputs("usage: seal [-m METRES] [DIARY [CONTAINER]]\n", stderr);
         return 2;
     }
-    const char *diary = words > 1 ? word[1] : "standard input";
-    FILE *text = words > 1 ? fopen(diary, "r") : stdin;
-    if (!text) return failed(diary);
-    int status = read_parents(diary, text, parents, &count);
-    fclose(text);
+    const char *diary = words > first ? word[first] : "standard input";
+    int status = words > first ? read_file(diary, parents, &nodes) : read_numbers(diary, stdin, parents, &nodes);
+    if (status == 0 && with_metres) status = read_file(word[2], metres, &measured);
     if (status != 0) return status;
 
-    plq_answer sealed = plq_image_of_parents(parents, count, image, sizeof image);
+    plq_answer sealed = with_metres ? plq_image_with_metres(parents, nodes, metres, measured, image, sizeof image)
+                                    : plq_image_of_parents(parents, nodes, image, sizeof image);
     if (sealed.code != PLQ_DONE) return refused(diary, sealed);
-    size_t size = PLQ_IMAGE_BYTES(sealed.first, sealed.second);
-    if (words > 2) return replace_container(word[2], image, size);
+    size_t size = plq_image_bytes(image);
+    if (words > first + 1) return replace_container(word[first + 1], image, size);
     return write_all(STDOUT_FILENO, image, size) < 0 ? failed("standard output") : 0;
 }

@@ -1,7 +1,8 @@
 /* Parlaqen: a sealed store for one tree of 1 to 65,535 nodes (LOUDS++), and tree strings laid end to end.
  *
  * Nodes are numbered from 1 in level order: the root, its children, their children, and so on. A parent list has for
- * each node, in that order, the number of its parent, and 0 for the root.
+ * each node, in that order, the number of its parent, and 0 for the root. An image may have metres too, a number of 32
+ * bits for each node in that order; an image without metres is not one with 0 metres.
  *
  * Every call takes whatever bytes and numbers it is handed, ends, and answers by value. A refused call changes no byte
  * of any buffer lent to it; a call that is done leaves what lies after its result as it was.
@@ -20,9 +21,9 @@
 #include <stdint.h>
 
 #define PLQ_VERSION_MAJOR 0
-#define PLQ_VERSION_MINOR 3
+#define PLQ_VERSION_MINOR 4
 #define PLQ_VERSION_PATCH 0
-#define PLQ_VERSION_STRING "0.3.0"
+#define PLQ_VERSION_STRING "0.4.0"
 
 /* The library's sizes have 64 bits on every machine. A call with shorter ones would hand it lists of other lengths. */
 #if SIZE_MAX != 0xFFFFFFFFFFFFFFFFu
@@ -51,9 +52,9 @@ enum plq_code {
     PLQ_DONE = 0,           /* not refused; place 0 */
     PLQ_WRONG_SIZE = 2,     /* a count or a length is outside its limits, or two do not fit each other; place 0 */
     PLQ_WRONG_SUMS = 6,     /* a block of the image has wrong sums; place: the lowest such block, from 0 */
-    PLQ_OTHER_VERSION = 11, /* the version in the header is not 1, as with an older or a newer writer; place 0 */
-    PLQ_WRONG_HEADER = 12,  /* no tree with an image of this length has these header numbers, or a reserved word is not
-                               zero; place 0 */
+    PLQ_OTHER_VERSION = 11, /* the header's version is neither 1 nor 2, as with an older or a newer writer; place 0 */
+    PLQ_WRONG_HEADER = 12,  /* no tree with an image of this version and length has these header numbers, or a reserved
+                               word is not zero; place 0 */
     PLQ_WRONG_STRINGS = 13, /* no tree with the header's n and m gives these strings; place 1, the first block of R1 */
     PLQ_WRONG_COUNTS = 14,  /* a block has a wrong count of earlier ones, or unused payload that is not zero; place: the
                                lowest such block */
@@ -63,13 +64,13 @@ enum plq_code {
                                the bits begin none, or one more than there are bits */
     PLQ_OTHER_TREES = 10,   /* the pack has another number of trees; place: the number found */
     PLQ_NOT_PARENTS = 3,    /* no parent list; place: the lowest offending entry, from 1 */
-    PLQ_NOT_ALLOWED = 8,    /* a kind, node or argument is not allowed; place: the lowest such question, from 1
-                               (listing: 1) */
+    PLQ_NOT_ALLOWED = 8,    /* a kind, node or argument is not allowed, or the image has no metres; place: the lowest
+                               such question, from 1 (listing, and metres read back: 1) */
     PLQ_TOO_DEEP = 9,       /* the listing would go below depth 63; place: its first node at depth 64 */
     PLQ_NO_ROOM = 1         /* an output has too little room; place 0 */
 };
 
-/* The first number of a question. Of the answers, 0 for a node means that there is none. */
+/* The first number of a question. Of the answers, 0 for a node means that there is none; 0 metres are a number. */
 enum plq_kind {
     PLQ_PARENT = 1,
     PLQ_FIRST_CHILD = 2,
@@ -80,7 +81,8 @@ enum plq_kind {
     PLQ_CHILD_RANK = 7,   /* its place among its siblings, from 1; the root's is 1 */
     PLQ_CHILD_NUMBER = 8, /* argument: which child, from 1 */
     PLQ_LEAF = 9,         /* 1 if it has no children, else 0 */
-    PLQ_SIBLING_AT = 10   /* argument: how many places to the right, to the left where negative */
+    PLQ_SIBLING_AT = 10,  /* argument: how many places to the right, to the left where negative */
+    PLQ_METRES = 11       /* its metres; not allowed where the image has none */
 };
 
 enum {
@@ -89,15 +91,17 @@ enum {
     PLQ_MOST_TREES = 256,
     PLQ_MOST_QUESTIONS = 256,
     PLQ_BLOCK_BYTES = 512,
-    PLQ_MOST_IMAGE_BYTES = 27136
+    PLQ_MOST_TREE_IMAGE_BYTES = 27136, /* of an image without metres, 53 blocks */
+    PLQ_MOST_IMAGE_BYTES = 293888      /* of any image, 574 blocks: the most that a reader accepts */
 };
 
 /* Sizes of buffers, for n from 1 to PLQ_MOST_NODES and m from 1 to n. Each is of type size_t, and a constant expression
  * if its arguments are, but for #if. An argument may be evaluated more than once. The counts of a refusal are 0, and no
  * tree has n = 0: look at the code first.
  *
- * PLQ_IMAGE_BYTES(n, m)    bytes of the image of a tree, by the two counts of sealing and of the check
- * PLQ_IMAGE_ROOM(n)        bytes that are enough for the image of any tree of n nodes
+ * PLQ_IMAGE_BYTES(n, m)    bytes of the image of a tree without metres, by the two counts of sealing and of the check
+ * PLQ_IMAGE_ROOM(n)        bytes that are enough for the image of any tree of n nodes without metres
+ * PLQ_METRES_BYTES(n)      bytes to add to either of the two for an image with metres
  * PLQ_STRING_BITS(n)       bits of a tree string
  * PLQ_STRING_BYTES(n)      bytes of a tree string
  * PLQ_BYTES_OF_BITS(bits)  bytes that so many bits of a string or a pack take
@@ -106,6 +110,7 @@ enum {
     (PLQ_BLOCK_BYTES * (1 + PLQ_SHARES_(n, 4000) + PLQ_SHARES_(PLQ_SIZE_(n) + 1, 4000) +                               \
                         2 * PLQ_SHARES_(PLQ_SHARES_(m, 64), 126)))
 #define PLQ_IMAGE_ROOM(n) PLQ_IMAGE_BYTES(n, n)
+#define PLQ_METRES_BYTES(n) (PLQ_BLOCK_BYTES * PLQ_SHARES_(n, 126))
 #define PLQ_STRING_BITS(n) (2 * PLQ_SIZE_(n) + 1)
 #define PLQ_STRING_BYTES(n) PLQ_BYTES_OF_BITS(PLQ_STRING_BITS(n))
 #define PLQ_BYTES_OF_BITS(bits) PLQ_SHARES_(bits, 8)
@@ -125,7 +130,9 @@ enum {
  *   plq_string_of_parents    bits of the string         1
  *   plq_parents_of_string    n, the number of nodes     0
  *   plq_image_of_parents     n                          m, one more than there are nodes with children
+ *   plq_image_with_metres    n                          m
  *   plq_parents_of_image     n                          0
+ *   plq_metres_of_image      n                          0
  *   plq_check_image          n                          m
  *   plq_ask                  questions answered         0
  *   plq_split                bits of the pack           trees
@@ -145,24 +152,39 @@ PLQ_MUST_USE plq_answer plq_string_of_parents(const uint32_t *parents, size_t n,
 PLQ_MUST_USE plq_answer plq_parents_of_string(const uint8_t *bytes, size_t nbytes, size_t bits, uint32_t *parents,
                                               size_t room);
 
-/* Parents to the sealed image, which PLQ_IMAGE_ROOM(n) bytes are enough for. It then has
+/* Parents to the sealed image without metres, version 1, which PLQ_IMAGE_ROOM(n) bytes are enough for. It then has
  * PLQ_IMAGE_BYTES(first, second) of them: 5 to 53 blocks of PLQ_BLOCK_BYTES.
  * Refusals: PLQ_WRONG_SIZE, PLQ_NOT_PARENTS, PLQ_NO_ROOM. */
 PLQ_MUST_USE plq_answer plq_image_of_parents(const uint32_t *parents, size_t n, uint8_t *image, size_t room);
+
+/* Parents and metres to the sealed image, version 2, which PLQ_IMAGE_ROOM(n) + PLQ_METRES_BYTES(n) bytes are enough
+ * for, and PLQ_MOST_IMAGE_BYTES always. It then has plq_image_bytes(image) of them: 6 to 574 blocks. There must be as
+ * many metres as parents: a list of no metres is of a wrong size too.
+ * Refusals: PLQ_WRONG_SIZE, PLQ_NOT_PARENTS, PLQ_NO_ROOM. */
+PLQ_MUST_USE plq_answer plq_image_with_metres(const uint32_t *parents, size_t n, const uint32_t *metres,
+                                              size_t metres_count, uint8_t *image, size_t room);
 
 /* A sealed image, after the whole check, back to its parents.
  * Refusals: PLQ_WRONG_SIZE, PLQ_WRONG_SUMS, PLQ_OTHER_VERSION, PLQ_WRONG_HEADER, PLQ_WRONG_STRINGS,
  * PLQ_WRONG_COUNTS, PLQ_WRONG_SAMPLES, PLQ_NO_ROOM. */
 PLQ_MUST_USE plq_answer plq_parents_of_image(const uint8_t *image, size_t nbytes, uint32_t *parents, size_t room);
 
-/* The whole check: done exactly if some tree of 1 to 65,535 nodes gives these bytes.
+/* A sealed image, after the whole check, back to its metres, one for each node. Where it has none, which is so in
+ * version 1, the refusal is PLQ_NOT_ALLOWED with place 1, whatever the room is; where it has some and there is no room,
+ * it is PLQ_NO_ROOM: so a call with no room tells whether an image has metres.
+ * Refusals: PLQ_WRONG_SIZE, PLQ_WRONG_SUMS, PLQ_OTHER_VERSION, PLQ_WRONG_HEADER, PLQ_WRONG_STRINGS,
+ * PLQ_WRONG_COUNTS, PLQ_WRONG_SAMPLES, PLQ_NOT_ALLOWED, PLQ_NO_ROOM. */
+PLQ_MUST_USE plq_answer plq_metres_of_image(const uint8_t *image, size_t nbytes, uint32_t *metres, size_t room);
+
+/* The whole check: done exactly if some tree of 1 to 65,535 nodes, with metres or without, gives these bytes.
  * Refusals: PLQ_WRONG_SIZE, PLQ_WRONG_SUMS, PLQ_OTHER_VERSION, PLQ_WRONG_HEADER, PLQ_WRONG_STRINGS,
  * PLQ_WRONG_COUNTS, PLQ_WRONG_SAMPLES. */
 PLQ_MUST_USE plq_answer plq_check_image(const uint8_t *image, size_t nbytes);
 
 /* After the whole check, one answer to each of 0 to 256 questions. A question is three numbers: kind, node, argument.
  * `numbers` counts those and not questions; plq_ask_questions, below, counts questions.
- * PLQ_CHILD_NUMBER and PLQ_SIBLING_AT take any argument, the other kinds take 0.
+ * PLQ_CHILD_NUMBER and PLQ_SIBLING_AT take any argument, the other kinds take 0. PLQ_METRES is not allowed where the
+ * image has no metres.
  * Refusals: PLQ_WRONG_SIZE, PLQ_WRONG_SUMS, PLQ_OTHER_VERSION, PLQ_WRONG_HEADER, PLQ_WRONG_STRINGS,
  * PLQ_WRONG_COUNTS, PLQ_WRONG_SAMPLES, PLQ_NOT_ALLOWED, PLQ_NO_ROOM. */
 PLQ_MUST_USE plq_answer plq_ask(const uint8_t *image, size_t nbytes, const int32_t *questions, size_t numbers,
@@ -189,8 +211,8 @@ PLQ_MUST_USE plq_answer plq_list(const uint8_t *image, size_t nbytes, uint32_t n
 
 /* The rest is no part of the archive: it is compiled with the caller. */
 
-/* A question as plq_ask_questions takes it; `kind` is one of enum plq_kind. An answer is at most 65,535: to ask on from
- * there, a cast of it to int32_t loses nothing. */
+/* A question as plq_ask_questions takes it; `kind` is one of enum plq_kind. An answer that is a node is at most 65,535:
+ * to ask on from there, a cast of it to int32_t loses nothing. */
 typedef struct {
     int32_t kind, node, argument;
 } plq_question;
@@ -211,7 +233,9 @@ PLQ_MUST_USE static inline plq_answer plq_ask_questions(const uint8_t *image, si
 }
 
 /* The bytes of an image by word 3 of its header, its number of blocks; reads the first 16 bytes. Of an image that was
- * sealed or checked this is PLQ_IMAGE_BYTES(n, m). Of other bytes it is what they say, up to 2^41 - 512. */
+ * sealed or checked this is PLQ_IMAGE_BYTES(n, m), and PLQ_METRES_BYTES(n) more where it has metres. Of other bytes it
+ * is what they say, up to 2^41 - 512. Byte 12 alone, image[12], is the number of blocks only in version 1: an image
+ * with metres has up to 574. */
 PLQ_MUST_USE static inline size_t plq_image_bytes(const uint8_t *image)
 {
     size_t blocks = 0;
@@ -226,9 +250,9 @@ PLQ_MUST_USE static inline const char *plq_code_text(uint32_t code)
     case PLQ_DONE: return "done";
     case PLQ_WRONG_SIZE: return "a count or a length is outside its limits, or two do not fit each other";
     case PLQ_WRONG_SUMS: return "a block of the image has wrong sums; the place is the lowest such block, from 0";
-    case PLQ_OTHER_VERSION: return "the version in the header is not 1, as with an older or a newer writer";
-    case PLQ_WRONG_HEADER: return "no tree with an image of this length has these header numbers, or a reserved word "
-                                  "is not zero";
+    case PLQ_OTHER_VERSION: return "the version in the header is neither 1 nor 2, as with an older or a newer writer";
+    case PLQ_WRONG_HEADER: return "no tree with an image of this version and length has these header numbers, or a "
+                                  "reserved word is not zero";
     case PLQ_WRONG_STRINGS: return "no tree with the header's n and m gives these strings; the place is the first "
                                    "block of R1";
     case PLQ_WRONG_COUNTS: return "a block of the image has a wrong count of earlier ones, or unused payload that is "
@@ -239,8 +263,8 @@ PLQ_MUST_USE static inline const char *plq_code_text(uint32_t code)
                                 "first bit, from 1, up to which they begin none, or one more than there are bits";
     case PLQ_OTHER_TREES: return "the pack has another number of trees; the place is the number found";
     case PLQ_NOT_PARENTS: return "no parent list has these numbers; the place is the lowest such entry, from 1";
-    case PLQ_NOT_ALLOWED: return "a kind, node or argument is not allowed; the place is the lowest such question, "
-                                 "from 1, and 1 for a listing";
+    case PLQ_NOT_ALLOWED: return "a kind, node or argument is not allowed, or the image has no metres; the place is "
+                                 "the lowest such question, from 1, and 1 for a listing and for metres read back";
     case PLQ_TOO_DEEP: return "the listing would go below depth 63; the place is its first node at depth 64";
     case PLQ_NO_ROOM: return "an output has too little room";
     default: return "a code that this header does not know";

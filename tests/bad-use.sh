@@ -10,12 +10,13 @@ passed "threads: sixteen of them on one image, each with data of its own in betw
 compile "$root/tests/order.c" bad-use/order
 
 # What the examples are tried on: right, damaged, and refused for other reasons.
-cp "$root/examples/diary.txt" diary.plq bad-use/
+cp "$root/examples/diary.txt" "$root/examples/metres.txt" diary.plq bad-use/
 cp diary.plq bad-use/damaged.plq
 printf '\377' | dd of=bad-use/damaged.plq bs=1 seek=1324 conv=notrunc status=none
 head -c 2559 diary.plq >bad-use/short.plq
 echo 0 1 2 1 >bad-use/no-tree.txt
 echo 0 1 one >bad-use/no-numbers.txt
+seq 51 >bad-use/one-too-few.txt
 
 example_runs() { # FOLDER [WORDS..]: what the examples in FOLDER say, and how they end, each run with WORDS before it
     local command status
@@ -25,11 +26,15 @@ example_runs() { # FOLDER [WORDS..]: what the examples in FOLDER say, and how th
         echo "${command[*]}: exit $status"
     done <<COMMANDS
 seal bad-use/diary.txt bad-use/diary.plq
+seal -m bad-use/metres.txt bad-use/diary.txt bad-use/with-metres.plq
+seal -m bad-use/one-too-few.txt bad-use/diary.txt
 seal bad-use/no-tree.txt
 seal bad-use/no-numbers.txt
 phone bad-use/diary.plq
 phone bad-use/diary.plq 13
 phone bad-use/diary.plq 53
+phone bad-use/with-metres.plq 13
+phone bad-use/with-metres.plq 53
 phone bad-use/damaged.plq
 phone bad-use/short.plq
 watch
@@ -37,7 +42,7 @@ watch 5
 COMMANDS
 }
 example_runs "$bin" >bad-use/plain.txt
-[ "$(grep -c ': exit 0$' bad-use/plain.txt)" = 4 ] || fail "bad use: of the examples' runs not just four are done"
+[ "$(grep -c ': exit 0$' bad-use/plain.txt)" = 6 ] || fail "bad use: of the examples' runs not just six are done"
 
 # Where the system puts programs at random over too wide a range, the sanitizers do not find their own place. The
 # search for leaks takes seconds on some machines, and the library allocates nothing; valgrind, below, searches.

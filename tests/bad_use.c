@@ -55,7 +55,9 @@ enum call {
     STRING_OF_PARENTS,
     PARENTS_OF_STRING,
     IMAGE_OF_PARENTS,
+    IMAGE_WITH_METRES,
     PARENTS_OF_IMAGE,
+    METRES_OF_IMAGE,
     CHECK_IMAGE,
     ASK,
     ASK_QUESTIONS,
@@ -87,7 +89,9 @@ static const struct {
     {"plq_parents_of_string", 2, {{1, READ}, {4, WRITTEN}},
      {PLQ_WRONG_SIZE, PLQ_LEFTOVER_SET, PLQ_NOT_STRING, PLQ_NO_ROOM}},
     {"plq_image_of_parents", 2, {{4, READ}, {1, WRITTEN}}, {PLQ_WRONG_SIZE, PLQ_NOT_PARENTS, PLQ_NO_ROOM}},
+    {"plq_image_with_metres", 3, {{4, READ}, {4, READ}, {1, WRITTEN}}, {PLQ_WRONG_SIZE, PLQ_NOT_PARENTS, PLQ_NO_ROOM}},
     {"plq_parents_of_image", 2, {{1, READ}, {4, WRITTEN}}, {OF_IMAGE, PLQ_NO_ROOM}},
+    {"plq_metres_of_image", 2, {{1, READ}, {4, WRITTEN}}, {OF_IMAGE, PLQ_NOT_ALLOWED, PLQ_NO_ROOM}},
     {"plq_check_image", 1, {{1, READ}}, {OF_IMAGE}},
     {"plq_ask", 3, {{1, READ}, {4, READ}, {4, WRITTEN}}, {OF_IMAGE, PLQ_NOT_ALLOWED, PLQ_NO_ROOM}},
     {"plq_ask_questions", 3, {{1, READ}, {sizeof(plq_question), READ}, {4, WRITTEN}},
@@ -101,7 +105,13 @@ static const struct {
 
 static int reads_image(enum call call)
 {
-    return call == PARENTS_OF_IMAGE || call == CHECK_IMAGE || call == ASK || call == ASK_QUESTIONS || call == LIST;
+    return call == PARENTS_OF_IMAGE || call == METRES_OF_IMAGE || call == CHECK_IMAGE || call == ASK ||
+           call == ASK_QUESTIONS || call == LIST;
+}
+
+static int takes_parents(enum call call)
+{
+    return call == STRING_OF_PARENTS || call == IMAGE_OF_PARENTS || call == IMAGE_WITH_METRES || call == JOIN;
 }
 
 static int reads_bits(enum call call)
@@ -236,7 +246,9 @@ static plq_answer call_it(const attempt *a)
     case STRING_OF_PARENTS: return plq_string_of_parents(first, first_count, second, second_count);
     case PARENTS_OF_STRING: return plq_parents_of_string(first, first_count, a->bits, second, second_count);
     case IMAGE_OF_PARENTS: return plq_image_of_parents(first, first_count, second, second_count);
+    case IMAGE_WITH_METRES: return plq_image_with_metres(first, first_count, second, second_count, third, third_count);
     case PARENTS_OF_IMAGE: return plq_parents_of_image(first, first_count, second, second_count);
+    case METRES_OF_IMAGE: return plq_metres_of_image(first, first_count, second, second_count);
     case CHECK_IMAGE: return plq_check_image(first, first_count);
     case ASK: return plq_ask(first, first_count, second, second_count, third, third_count);
     case ASK_QUESTIONS: return plq_ask_questions(first, first_count, second, second_count, third, third_count);
@@ -252,6 +264,7 @@ static size_t result_bytes(const attempt *a, plq_answer answer)
     switch (a->call) {
     case STRING_OF_PARENTS: return PLQ_BYTES_OF_BITS(answer.first);
     case IMAGE_OF_PARENTS: return PLQ_IMAGE_BYTES(answer.first, answer.second);
+    case IMAGE_WITH_METRES: return PLQ_IMAGE_BYTES(answer.first, answer.second) + PLQ_METRES_BYTES(answer.first);
     case SPLIT: return 4 * (size_t)answer.second;
     case JOIN: return PLQ_BYTES_OF_BITS(answer.first);
     case LIST: return 4 * PLQ_LISTING_NUMBERS(answer.first);
@@ -286,7 +299,8 @@ static int place_fits(const attempt *a, plq_answer answer)
     case PLQ_NOT_STRING: return place >= 1 && place <= a->bits + 1;
     case PLQ_OTHER_TREES: return place != a->trees;
     case PLQ_NOT_PARENTS: return place >= 1 && place <= a->list[list_of_parents(a->call)].count;
-    case PLQ_NOT_ALLOWED: return place >= 1 && place <= (a->call == LIST ? 1 : a->list[1].count);
+    case PLQ_NOT_ALLOWED:
+        return place >= 1 && place <= (a->call == LIST || a->call == METRES_OF_IMAGE ? 1 : a->list[1].count);
     case PLQ_TOO_DEEP: return place > 64 && place <= PLQ_MOST_NODES;
     default: return place == 0;
     }
@@ -344,16 +358,24 @@ typedef struct {
     uint32_t first, second;
 } right_use;
 
+/* Sealing makes images of both versions of every tree, and metres are read back from that of version 2. Which one the
+ * other calls read is that of the tree. */
 struct tree {
     const char *name;
     uint32_t n, m;
-    uint32_t *parents;
+    uint32_t *parents, *metres;
+    int has_metres; /* to the calls that read an image: it is of version 2 */
     right_use use[CALLS];
 };
 
-enum { ASKED = 5 };
-static struct tree t, bushy, path;
-static struct tree *const trees[] = {&t, &bushy, &path};
+enum { ASKED = 6 };
+static struct tree t, bushy, path, t_with_metres, bushy_with_metres, path_with_metres;
+static struct tree *const trees[] = {&t, &bushy, &path, &t_with_metres, &bushy_with_metres, &path_with_metres};
+
+static int is_large(const struct tree *tree)
+{
+    return tree->n > 7;
+}
 
 /* The children of a node are those after the nodes whose parent comes before it. */
 static uint32_t nodes_with_parent_before(const uint32_t *parents, uint32_t n, uint32_t node)
@@ -429,32 +451,34 @@ static void put_string(uint8_t *blocks, const uint8_t *string, uint32_t bits, ui
     }
 }
 
-/* The first block of each part of an image, and how many blocks there are. */
+/* The first block of each part of an image, and how many blocks there are: without metres the last two are the same. */
 struct layout {
-    size_t r1, r0, r1_samples, r0_samples, blocks;
+    size_t r1, r0, r1_samples, r0_samples, metres, blocks;
 };
 
-static struct layout layout_of(uint32_t n, uint32_t m)
+static struct layout layout_of(uint32_t n, uint32_t m, int has_metres)
 {
     size_t r1 = 1, r0 = r1 + (n + 3999) / 4000, r1_samples = r0 + (n + 1 + 3999) / 4000;
-    size_t r0_samples = r1_samples + ((m + 63) / 64 + 125) / 126;
-    return (struct layout){r1, r0, r1_samples, r0_samples, 2 * r0_samples - r1_samples};
+    size_t r0_samples = r1_samples + ((m + 63) / 64 + 125) / 126, metres = 2 * r0_samples - r1_samples;
+    return (struct layout){r1, r0, r1_samples, r0_samples, metres, metres + (has_metres ? (n + 125) / 126 : 0)};
 }
 
-/* The steps of FORMAT.md for a writer, over PLQ_IMAGE_BYTES(n, m) zeros. */
-static void put_image(uint8_t *image, const uint32_t *parents, uint32_t n, uint32_t m)
+/* The steps of FORMAT.md for a writer, over as many zeros as the image has bytes; `metres` is NULL for version 1. */
+static void put_image(uint8_t *image, const uint32_t *parents, uint32_t n, uint32_t m, const uint32_t *metres)
 {
-    const struct layout first = layout_of(n, m);
+    const struct layout first = layout_of(n, m, metres != NULL);
     uint8_t *r1 = must(calloc(n, 1)), *r0 = must(calloc(n + 1, 1));
     for (uint32_t i = 0; i < n; i++) r1[i] = i + 1 == n || parents[i + 1] != parents[i];
     for (uint32_t i = 1; i < n; i++) r0[parents[i] - 1] = 1;
     r0[n] = 1;
-    put_word(image, 1);
+    put_word(image, metres ? 2 : 1);
     put_word(image + 4, n);
     put_word(image + 8, m);
     put_word(image + 12, (uint32_t)first.blocks);
     put_string(image + PLQ_BLOCK_BYTES * first.r1, r1, n, image + PLQ_BLOCK_BYTES * first.r1_samples);
     put_string(image + PLQ_BLOCK_BYTES * first.r0, r0, n + 1, image + PLQ_BLOCK_BYTES * first.r0_samples);
+    for (uint32_t i = 0; metres && i < n; i++)
+        put_word(image + PLQ_BLOCK_BYTES * (first.metres + i / 126) + 4 * (i % 126), metres[i]);
     put_sums(image, first.blocks);
     free(r1);
     free(r0);
@@ -472,25 +496,28 @@ static void append_listing(uint32_t *pairs, uint32_t *listed, const uint32_t *pa
         append_listing(pairs, listed, parents, n, child, depth + 1);
 }
 
-/* Questions whose answers can be read off the parent list, at the two ends and in the middle. */
-static void make_questions(struct tree *tree, plq_question *questions, uint32_t *answers)
+/* Questions whose answers can be read off the two lists, at the two ends and in the middle. */
+static void make_questions(const struct tree *tree, plq_question *questions, uint32_t *answers)
 {
     const uint32_t *parents = tree->parents, n = tree->n, middle = (n + 1) / 2;
     const plq_question asked[ASKED] = {{PLQ_PARENT, (int32_t)n, 0},
                                        {PLQ_DEGREE, 1, 0},
                                        {PLQ_NEXT_SIBLING, (int32_t)middle, 0},
                                        {PLQ_LEAF, (int32_t)middle, 0},
-                                       {PLQ_CHILD_NUMBER, 1, 1}};
+                                       {PLQ_CHILD_NUMBER, 1, 1},
+                                       {tree->has_metres ? PLQ_METRES : PLQ_PARENT, (int32_t)n, 0}};
     memcpy(questions, asked, sizeof asked);
     answers[0] = parents[n - 1];
     answers[1] = degree(parents, n, 1);
     answers[2] = middle < n && parents[middle] == parents[middle - 1] ? middle + 1 : 0;
     answers[3] = degree(parents, n, middle) == 0;
     answers[4] = n > 1 ? 2 : 0;
+    answers[5] = tree->has_metres ? tree->metres[n - 1] : parents[n - 1];
 }
 
 /* Lays down how each call is used on the tree, with `node` listed. What is made here lasts until drop_tree. */
-static void make_tree(struct tree *tree, const char *name, uint32_t n, uint32_t *parents, uint32_t node)
+static void make_tree(struct tree *tree, const char *name, uint32_t n, uint32_t *parents, uint32_t *metres,
+                      int has_metres, uint32_t node)
 {
     static const uint32_t small[] = {0, 1, 1, 1, 2, 2, 4}, one[] = {0};
     uint32_t listed = 0;
@@ -499,12 +526,14 @@ static void make_tree(struct tree *tree, const char *name, uint32_t n, uint32_t 
     tree->n = n;
     tree->m = 1;
     tree->parents = parents;
+    tree->metres = metres;
+    tree->has_metres = has_metres;
     for (uint32_t i = 1; i < n; i++) tree->m += parents[i] != parents[i - 1];
 
-    size_t image_bytes = PLQ_IMAGE_BYTES(n, tree->m);
+    size_t bytes_alone = PLQ_IMAGE_BYTES(n, tree->m), bytes_with = bytes_alone + PLQ_METRES_BYTES(n);
     uint8_t *string = must(calloc(PLQ_STRING_BYTES(n), 1)), *pack = must(calloc(PLQ_STRING_BYTES(n) + 8, 1));
-    uint8_t *joined = must(calloc(PLQ_STRING_BYTES(n) + 8, 1)), *image = must(calloc(image_bytes, 1));
-    uint8_t *before = must(calloc(PLQ_STRING_BYTES(n) + 8, 1));
+    uint8_t *joined = must(calloc(PLQ_STRING_BYTES(n) + 8, 1)), *before = must(calloc(PLQ_STRING_BYTES(n) + 8, 1));
+    uint8_t *image_alone = must(calloc(bytes_alone, 1)), *image_with = must(calloc(bytes_with, 1));
     uint32_t *pairs = must(calloc(2 * (size_t)n, 4)), *answers = must(calloc(ASKED, 4)), *places = must(calloc(4, 4));
     plq_question *questions = must(calloc(ASKED, sizeof *questions));
 
@@ -516,14 +545,17 @@ static void make_tree(struct tree *tree, const char *name, uint32_t n, uint32_t 
     memset(before, UNWRITTEN, PLQ_STRING_BYTES(n) + 8);
     memcpy(before, joined, PLQ_BYTES_OF_BITS(bits_before));
     append_string(joined, &joined_bits, parents, n);
-    put_image(image, parents, n, tree->m);
+    put_image(image_alone, parents, n, tree->m, NULL);
+    put_image(image_with, parents, n, tree->m, metres);
     append_listing(pairs, &listed, parents, n, node, 0);
     make_questions(tree, questions, answers);
     const uint32_t starts_and_sizes[] = {1, 2 * n + 2, n, 1};
     memcpy(places, starts_and_sizes, sizeof starts_and_sizes);
 
     content as_parents = {parents, 4 * (size_t)n}, as_string = {string, PLQ_STRING_BYTES(n)};
-    content as_image = {image, image_bytes}, as_pack = {pack, PLQ_BYTES_OF_BITS(pack_bits)};
+    content as_metres = {metres, 4 * (size_t)n}, as_pack = {pack, PLQ_BYTES_OF_BITS(pack_bits)};
+    content alone = {image_alone, bytes_alone}, with_metres = {image_with, bytes_with};
+    content as_image = has_metres ? with_metres : alone;
     content as_questions = {questions, ASKED * sizeof *questions}, as_answers = {answers, ASKED * 4};
     content old_pack = {before, PLQ_BYTES_OF_BITS(joined_bits)}, new_pack = {joined, PLQ_BYTES_OF_BITS(joined_bits)};
     content starts = {places, 4 * (1 + two)}, sizes = {places + 2, 4 * (1 + two)};
@@ -531,8 +563,10 @@ static void make_tree(struct tree *tree, const char *name, uint32_t n, uint32_t 
     const right_use uses[CALLS] = {
         {0, 0, 0, {as_parents, {NULL, as_string.bytes}}, {none, as_string}, 2 * n + 1, 1},
         {string_bits, 0, 0, {as_string, {NULL, as_parents.bytes}}, {none, as_parents}, n, 0},
-        {0, 0, 0, {as_parents, {NULL, as_image.bytes}}, {none, as_image}, n, tree->m},
+        {0, 0, 0, {as_parents, {NULL, alone.bytes}}, {none, alone}, n, tree->m},
+        {0, 0, 0, {as_parents, as_metres, {NULL, with_metres.bytes}}, {none, none, with_metres}, n, tree->m},
         {0, 0, 0, {as_image, {NULL, as_parents.bytes}}, {none, as_parents}, n, 0},
+        {0, 0, 0, {with_metres, {NULL, as_metres.bytes}}, {none, as_metres}, n, 0},
         {0, 0, 0, {as_image}, {none}, n, tree->m},
         {0, 0, 0, {as_image, as_questions, {NULL, as_answers.bytes}}, {none, none, as_answers}, ASKED, 0},
         {0, 0, 0, {as_image, as_questions, {NULL, as_answers.bytes}}, {none, none, as_answers}, ASKED, 0},
@@ -547,8 +581,10 @@ static void make_tree(struct tree *tree, const char *name, uint32_t n, uint32_t 
 static void drop_tree(struct tree *tree)
 {
     free(tree->parents);
+    free(tree->metres);
     free(tree->use[PARENTS_OF_STRING].before[0].at);
-    free(tree->use[PARENTS_OF_IMAGE].before[0].at);
+    free(tree->use[IMAGE_OF_PARENTS].after[1].at);
+    free(tree->use[IMAGE_WITH_METRES].after[2].at);
     free(tree->use[ASK].before[1].at);
     free(tree->use[ASK].after[2].at);
     free(tree->use[SPLIT].before[0].at);
@@ -577,14 +613,33 @@ static uint32_t *bushy_of(uint32_t n, size_t children)
     return parents;
 }
 
+/* Metres that are any numbers: none is wrong, the least and the greatest too. */
+static uint32_t *any_metres(uint32_t n)
+{
+    uint32_t *metres = must(malloc(4 * (size_t)n));
+    for (uint32_t i = 0; i < n; i++) metres[i] = (uint32_t)any_number();
+    metres[n / 2] = 0;
+    metres[n - 1] = UINT32_MAX;
+    return metres;
+}
+
+static uint32_t *copy_of(const uint32_t *numbers, size_t count)
+{
+    uint32_t *copy = must(malloc(4 * count));
+    return memcpy(copy, numbers, 4 * count);
+}
+
 static void make_trees(void)
 {
-    static const uint32_t parents_of_t[] = {0, 1, 1, 1, 2, 2, 4};
-    uint32_t *copy = must(malloc(sizeof parents_of_t));
-    memcpy(copy, parents_of_t, sizeof parents_of_t);
-    make_tree(&t, "T", 7, copy, 2);
-    make_tree(&bushy, "the bushy tree", 5000, bushy_of(5000, 7), 1);
-    make_tree(&path, "the longest path", PLQ_MOST_NODES, path_of(PLQ_MOST_NODES), PLQ_MOST_NODES - 63);
+    static const uint32_t parents_of_t[] = {0, 1, 1, 1, 2, 2, 4}, metres_of_t[] = {10, 20, 30, 40, 50, 60, 70};
+    const uint32_t most = PLQ_MOST_NODES, few_nodes = 5000;
+    make_tree(&t, "T", 7, copy_of(parents_of_t, 7), copy_of(metres_of_t, 7), 0, 2);
+    make_tree(&bushy, "the bushy tree", few_nodes, bushy_of(few_nodes, 7), any_metres(few_nodes), 0, 1);
+    make_tree(&path, "the longest path", most, path_of(most), any_metres(most), 0, most - 63);
+    make_tree(&t_with_metres, "T with metres", 7, copy_of(parents_of_t, 7), copy_of(metres_of_t, 7), 1, 2);
+    make_tree(&bushy_with_metres, "the bushy tree with metres", few_nodes, copy_of(bushy.parents, few_nodes),
+              any_metres(few_nodes), 1, 1);
+    make_tree(&path_with_metres, "the longest path with metres", most, path_of(most), any_metres(most), 1, most - 63);
 }
 
 /* An attempt that must be done, with `spare` bytes after each list that is written, of which the call is not told. */
@@ -629,16 +684,27 @@ static void trees_are_those_of_the_page(void)
     } words[] = {{0x000, 1},   {0x004, 7},   {0x008, 4},     {0x00C, 5},   {0x1F8, 17},  {0x1FC, 2112},
                  {0x204, 150}, {0x3F8, 151}, {0x3FC, 18876}, {0x404, 209}, {0x5F8, 211}, {0x5FC, 26377},
                  {0x600, 1},   {0x7F8, 4},   {0x7FC, 504},   {0x800, 1},   {0x9F8, 5},   {0x9FC, 630}};
+    static const struct {
+        size_t at;
+        uint32_t word;
+    } words_with_metres[] = {{0x000, 2},  {0x00C, 6},  {0x1F8, 19}, {0x1FC, 2361}, {0xA00, 10},
+                             {0xA04, 20}, {0xA08, 30}, {0xA0C, 40}, {0xA10, 50},   {0xA14, 60},
+                             {0xA18, 70}, {0xBF8, 285}, {0xBFC, 34790}};
     static const uint32_t listing[] = {2, 0, 5, 1, 6, 1};
-    uint8_t image[2560] = {0};
+    uint8_t image[3072] = {0};
     group = "the trees of this program";
     for (size_t i = 0; i < COUNT_OF(words); i++) put_word(image + words[i].at, words[i].word);
     expect(t.m == 4 && t.use[CHECK_IMAGE].before[0].bytes == 2560, "m and the bytes of T's image");
     expect(memcmp(t.use[CHECK_IMAGE].before[0].at, image, 2560) == 0, "T's image");
+    for (size_t i = 0; i < COUNT_OF(words_with_metres); i++)
+        put_word(image + words_with_metres[i].at, words_with_metres[i].word);
+    expect(t_with_metres.use[CHECK_IMAGE].before[0].bytes == 3072, "the bytes of T's image with metres");
+    expect(memcmp(t_with_metres.use[CHECK_IMAGE].before[0].at, image, 3072) == 0, "T's image with metres");
     expect(memcmp(t.use[PARENTS_OF_STRING].before[0].at, string, 2) == 0, "T's string");
     expect(memcmp(t.use[SPLIT].before[0].at, pack, 3) == 0, "T's pack");
     expect(memcmp(t.use[LIST].after[1].at, listing, sizeof listing) == 0, "T's listing of node 2");
-    expect(path.use[CHECK_IMAGE].before[0].bytes == PLQ_MOST_IMAGE_BYTES, "the largest image");
+    expect(path.use[CHECK_IMAGE].before[0].bytes == PLQ_MOST_TREE_IMAGE_BYTES, "the largest image without metres");
+    expect(path_with_metres.use[CHECK_IMAGE].before[0].bytes == PLQ_MOST_IMAGE_BYTES, "the largest image");
     expect(path.use[PARENTS_OF_STRING].bits == PLQ_MOST_BITS, "the longest string");
 }
 
@@ -674,9 +740,19 @@ static void no_lists(void)
         {IMAGE_OF_PARENTS, FIRST, 0, 0, 0, PLQ_WRONG_SIZE, 0},
         {IMAGE_OF_PARENTS, SECOND, 0, 0, 0, PLQ_NO_ROOM, 0},
         {IMAGE_OF_PARENTS, FIRST | SECOND, 0, 0, 0, PLQ_WRONG_SIZE, 0},
+        {IMAGE_WITH_METRES, FIRST, 0, 0, 0, PLQ_WRONG_SIZE, 0},
+        {IMAGE_WITH_METRES, SECOND, 0, 0, 0, PLQ_WRONG_SIZE, 0},
+        {IMAGE_WITH_METRES, THIRD, 0, 0, 0, PLQ_NO_ROOM, 0},
+        {IMAGE_WITH_METRES, FIRST | SECOND, 0, 0, 0, PLQ_WRONG_SIZE, 0},
+        {IMAGE_WITH_METRES, FIRST | THIRD, 0, 0, 0, PLQ_WRONG_SIZE, 0},
+        {IMAGE_WITH_METRES, SECOND | THIRD, 0, 0, 0, PLQ_WRONG_SIZE, 0},
+        {IMAGE_WITH_METRES, FIRST | SECOND | THIRD, 0, 0, 0, PLQ_WRONG_SIZE, 0},
         {PARENTS_OF_IMAGE, FIRST, 0, 0, 0, PLQ_WRONG_SIZE, 0},
         {PARENTS_OF_IMAGE, SECOND, 0, 0, 0, PLQ_NO_ROOM, 0},
         {PARENTS_OF_IMAGE, FIRST | SECOND, 0, 0, 0, PLQ_WRONG_SIZE, 0},
+        {METRES_OF_IMAGE, FIRST, 0, 0, 0, PLQ_WRONG_SIZE, 0},
+        {METRES_OF_IMAGE, SECOND, 0, 0, 0, PLQ_NO_ROOM, 0},
+        {METRES_OF_IMAGE, FIRST | SECOND, 0, 0, 0, PLQ_WRONG_SIZE, 0},
         {CHECK_IMAGE, FIRST, 0, 0, 0, PLQ_WRONG_SIZE, 0},
         {ASK, FIRST, 0, 0, 0, PLQ_WRONG_SIZE, 0},
         {ASK, SECOND, 0, 0, 0, PLQ_DONE, 0},
@@ -730,13 +806,13 @@ static void no_lists(void)
     }
 }
 
-/* Numbers that are no length of the small list that is there. The last four would be its length, which is `small`, if
- * their high bits were lost, or their product with 2, 4 or 8 had 64 bits. */
+/* Numbers that are no length of the small list that is there, nor of any that is right. The last four would be its
+ * length, which is `small`, if their high bits were lost, or their product with 2, 4 or 8 had 64 bits. */
 enum { FALSE_LENGTHS = 13 };
 static void make_false_lengths(uint64_t small, uint64_t lengths[FALSE_LENGTHS])
 {
     const uint64_t one = 1;
-    const uint64_t all[FALSE_LENGTHS] = {65536,
+    const uint64_t all[FALSE_LENGTHS] = {PLQ_MOST_IMAGE_BYTES + PLQ_BLOCK_BYTES,
                                          one << 31,
                                          one << 32,
                                          (one << 32) + 7,
@@ -773,6 +849,19 @@ static void false_lengths_of_lists(void)
             }
 }
 
+/* Parents and metres that are said to be as many as each other, but are not so many. */
+static void false_lengths_of_both_lists(void)
+{
+    uint64_t lengths[FALSE_LENGTHS];
+    for (size_t i = 0; i < FALSE_LENGTHS; i++) {
+        attempt a = right_attempt(&t, IMAGE_WITH_METRES, 0);
+        make_false_lengths(a.list[0].count, lengths);
+        a.list[0].count = a.list[1].count = lengths[i];
+        expect_refused(&a, PLQ_WRONG_SIZE, 0, "the same false number of parents and of metres");
+        end(&a);
+    }
+}
+
 static void false_bits_and_trees(void)
 {
     uint64_t bits[FALSE_LENGTHS], bytes[FALSE_LENGTHS], numbers_of_trees[FALSE_LENGTHS];
@@ -789,13 +878,11 @@ static void false_bits_and_trees(void)
             a.list[0].count = 0; /* as many bytes as would do if bits + 7 were 6 */
             expect_refused(&a, PLQ_WRONG_SIZE, 0, "false bits in no bytes");
             for (size_t j = 0; j < FALSE_LENGTHS; j++) {
-                /* to a join the bytes are a room, and it would read the 65,536 bits that are not there */
-                if (call == JOIN && bits[i] <= PLQ_MOST_BITS) continue;
                 a.list[0].count = bytes[j];
                 expect_refused(&a, PLQ_WRONG_SIZE, 0, "false bits in a false number of bytes");
             }
             a.list[0].count = PLQ_BYTES_OF_BITS(bits[i]);
-            if (bits[i] > PLQ_MOST_BITS) expect_refused(&a, PLQ_WRONG_SIZE, 0, "false bits in as many bytes");
+            expect_refused(&a, PLQ_WRONG_SIZE, 0, "false bits in as many bytes");
             a.bits = right_bits;
             a.list[0].count = right_bytes;
             a.trees = numbers_of_trees[i];
@@ -832,6 +919,7 @@ static void false_lengths(void)
 {
     group = "lengths, numbers and rooms up to 2^64 - 1";
     false_lengths_of_lists();
+    false_lengths_of_both_lists();
     false_bits_and_trees();
     false_counts_of_questions();
 }
@@ -888,13 +976,14 @@ static void expect_refused_in_every_room(attempt *a, uint32_t code, uint32_t pla
         if (calls[a->call].list[list].use == WRITTEN) resize(a, list, calls[a->call].list[list].element * enough[list]);
 }
 
-/* A parent list that is none, in each call that takes one. */
+/* A parent list that is none, in each call that takes one, with as many metres where there are some. */
 static void expect_no_parents(const uint32_t *parents, size_t n, uint32_t code, uint32_t place)
 {
-    static const enum call taking[] = {STRING_OF_PARENTS, IMAGE_OF_PARENTS, JOIN};
-    for (size_t i = 0; i < COUNT_OF(taking); i++) {
-        attempt a = right_attempt(&t, taking[i], 0);
-        lend(&a, list_of_parents(a.call), parents, 4 * n);
+    for (enum call call = 0; call < CALLS; call++) {
+        if (!takes_parents(call)) continue;
+        attempt a = right_attempt(&t, call, 0);
+        lend(&a, list_of_parents(call), parents, 4 * n);
+        if (call == IMAGE_WITH_METRES) lend(&a, 1, NULL, 4 * n);
         expect_refused_in_every_room(&a, code, place, "no parent list");
         end(&a);
     }
@@ -917,7 +1006,7 @@ static void refused_parents(void)
     for (size_t i = 0; i < COUNT_OF(trees); i++)
         for (enum call call = 0; call < CALLS; call++) {
             size_t list = list_of_parents(call), n = trees[i]->n;
-            if (call != STRING_OF_PARENTS && call != IMAGE_OF_PARENTS && call != JOIN) continue;
+            if (!takes_parents(call)) continue;
             const struct {
                 size_t entry;
                 uint32_t number;
@@ -930,6 +1019,34 @@ static void refused_parents(void)
                 end(&a);
             }
         }
+}
+
+/* Metres that are more or fewer than the parents, whatever the parents are. */
+static void refused_metres(void)
+{
+    for (size_t i = 0; i < COUNT_OF(trees); i++) {
+        const size_t n = trees[i]->n, counts[] = {0, 1, n - 1, n + 1, PLQ_MOST_NODES - 1, PLQ_MOST_NODES + 1};
+        for (size_t k = 0; k < COUNT_OF(counts); k++) {
+            attempt a = right_attempt(trees[i], IMAGE_WITH_METRES, 0);
+            resize(&a, 1, 4 * counts[k]);
+            expect_refused_in_every_room(&a, PLQ_WRONG_SIZE, 0, "too many metres, or too few");
+            put_number(&a, 0, n - 1, (uint32_t)n);
+            expect_refused_in_every_room(&a, PLQ_WRONG_SIZE, 0, "too many metres, or too few, and no parent list");
+            end(&a);
+        }
+    }
+}
+
+/* Metres that are not there are refused, and not given as 0: read back from an image of version 1, in every room. */
+static void refused_without_metres(void)
+{
+    for (size_t i = 0; i < COUNT_OF(trees); i++) {
+        content alone = trees[i]->use[IMAGE_OF_PARENTS].after[1];
+        attempt a = right_attempt(trees[i], METRES_OF_IMAGE, 0);
+        lend(&a, 0, alone.at, alone.bytes);
+        expect_refused_in_every_room(&a, PLQ_NOT_ALLOWED, 1, "an image without metres");
+        end(&a);
+    }
 }
 
 /* The bytes, bits, codes and places of FORMAT.md, sections 1 and 5: read as one string, or as a pack of `trees`. */
@@ -992,7 +1109,7 @@ static void refused_bits(void)
             const struct {
                 size_t bit;
                 uint32_t place;
-            } changed[] = {{1, 1}, {2, 2}, {bits, (uint32_t)bits + (trees[i] != &path)}};
+            } changed[] = {{1, 1}, {2, 2}, {bits, (uint32_t)bits + (trees[i]->n < PLQ_MOST_NODES)}};
             for (size_t k = 0; k < COUNT_OF(changed); k++) {
                 change_bit(&a, changed[k].bit);
                 expect_refused_in_every_room(&a, PLQ_NOT_STRING, changed[k].place, "one changed bit");
@@ -1041,38 +1158,48 @@ static void expect_no_image(const uint8_t *image, size_t bytes, uint32_t code, u
     }
 }
 
+/* One byte of an image changed, with its sums made right again where the code is not that of wrong sums. */
+static void expect_no_image_with(content image, size_t at, uint8_t byte, uint32_t code, uint32_t place)
+{
+    uint8_t *copy = must(malloc(image.bytes));
+    memcpy(copy, image.at, image.bytes);
+    copy[at] = byte;
+    if (code != PLQ_WRONG_SUMS) put_sums(copy, image.bytes / PLQ_BLOCK_BYTES);
+    expect_no_image(copy, image.bytes, code, place, "a changed byte of the page");
+    free(copy);
+}
+
 static void refused_images_of_the_page(void)
 {
     static const struct {
         size_t at;
         uint8_t byte;
         uint32_t code, place;
-    } mended[] = {{0x000, 0x00, 11, 0}, {0x004, 0x08, 13, 1}, {0x008, 0x01, 12, 0}, {0x008, 0x03, 13, 1},
-                  {0x00C, 0x06, 12, 0}, {0x010, 0x01, 12, 0}, {0x200, 0x01, 14, 1}, {0x204, 0x97, 14, 1},
-                  {0x204, 0x69, 13, 1}, {0x404, 0x8B, 13, 1}, {0x600, 0x00, 15, 3}, {0x604, 0x01, 14, 3}};
-    static const struct {
-        size_t at;
-        uint8_t byte;
-        uint32_t block;
-    } damaged[] = {{0x000, 0x00, 0}, {0x1F8, 0x10, 0}, {0x300, 0x80, 1}, {0x9FC, 0x77, 4}};
-    const uint8_t *image = t.use[CHECK_IMAGE].before[0].at;
-    uint8_t copy[5120], *zeros = must(calloc(27648, 1));
-    for (size_t i = 0; i < COUNT_OF(mended); i++) {
-        memcpy(copy, image, 2560);
-        copy[mended[i].at] = mended[i].byte;
-        put_sums(copy, 5);
-        expect_no_image(copy, 2560, mended[i].code, mended[i].place, "a changed byte of the page, sums made right");
-    }
-    for (size_t i = 0; i < COUNT_OF(damaged); i++) {
-        memcpy(copy, image, 2560);
-        copy[damaged[i].at] = damaged[i].byte;
-        expect_no_image(copy, 2560, PLQ_WRONG_SUMS, damaged[i].block, "a changed byte of the page");
-    }
+    } of_t[] = {{0x000, 0x00, 6, 0},  {0x1F8, 0x10, 6, 0},  {0x300, 0x80, 6, 1},  {0x9FC, 0x77, 6, 4},
+                {0x000, 0x00, 11, 0}, {0x000, 0x02, 12, 0}, {0x004, 0x08, 13, 1}, {0x008, 0x01, 12, 0},
+                {0x008, 0x03, 13, 1}, {0x00C, 0x06, 12, 0}, {0x010, 0x01, 12, 0}, {0x200, 0x01, 14, 1},
+                {0x204, 0x97, 14, 1}, {0x204, 0x69, 13, 1}, {0x404, 0x8B, 13, 1}, {0x600, 0x00, 15, 3},
+                {0x604, 0x01, 14, 3}},
+      of_t_with_metres[] = {{0x000, 0x01, 12, 0}, {0x000, 0x03, 11, 0}, {0x00C, 0x05, 12, 0},
+                            {0xA00, 0x0B, 6, 5},  {0xA1C, 0x01, 14, 5}};
+    const content alone = t.use[CHECK_IMAGE].before[0], with_metres = t_with_metres.use[CHECK_IMAGE].before[0];
+    const uint8_t *image = alone.at;
+    uint8_t copy[5120], *zeros = must(calloc(294400, 1));
+    for (size_t i = 0; i < COUNT_OF(of_t); i++)
+        expect_no_image_with(alone, of_t[i].at, of_t[i].byte, of_t[i].code, of_t[i].place);
+    for (size_t i = 0; i < COUNT_OF(of_t_with_metres); i++)
+        expect_no_image_with(with_metres, of_t_with_metres[i].at, of_t_with_metres[i].byte, of_t_with_metres[i].code,
+                             of_t_with_metres[i].place);
     expect_no_image(image, 0, PLQ_WRONG_SIZE, 0, "nothing");
     expect_no_image(image, 2559, PLQ_WRONG_SIZE, 0, "T's image without its last byte");
     expect_no_image(image, 2048, PLQ_WRONG_SIZE, 0, "the first four blocks of T's image");
-    expect_no_image(zeros, 27648, PLQ_WRONG_SIZE, 0, "zeros, a block more than the largest image");
+    expect_no_image(zeros, 294400, PLQ_WRONG_SIZE, 0, "zeros, a block more than the largest image");
+    expect_no_image(zeros, 293888, PLQ_WRONG_SUMS, 1, "zeros, as many as the largest image has bytes");
     expect_no_image(zeros, 2560, PLQ_WRONG_SUMS, 1, "zeros, as many as T's image has bytes");
+    expect_no_image(with_metres.at, 2560, PLQ_WRONG_HEADER, 0, "T's image with metres, without its last block");
+    memcpy(copy, with_metres.at, 3072);
+    memcpy(copy, image, 512);
+    expect_no_image(copy, 3072, PLQ_WRONG_HEADER, 0, "T's image with metres and the header of T's image without");
     memcpy(copy, image, 2560);
     memcpy(copy + 1536, image + 2048, 512);
     memcpy(copy + 2048, image + 1536, 512);
@@ -1111,15 +1238,17 @@ static void add_fault(struct faults *faults, uint32_t code, size_t block, size_t
 
 static void add_to_header(struct faults *faults, const struct tree *tree)
 {
-    const uint32_t n = tree->n, m = tree->m, blocks = (uint32_t)layout_of(n, m).blocks;
+    const uint32_t n = tree->n, m = tree->m, blocks = (uint32_t)layout_of(n, m, tree->has_metres).blocks;
+    const uint32_t version = tree->has_metres ? 2 : 1;
     const struct {
         size_t word;
         uint32_t number, code;
     } header[] = {
         {0, 0, PLQ_OTHER_VERSION},
-        {0, 2, PLQ_OTHER_VERSION},
-        {0, 1 + (1u << 8), PLQ_OTHER_VERSION},
-        {0, 1 + (1u << 31), PLQ_OTHER_VERSION},
+        {0, 3, PLQ_OTHER_VERSION},
+        {0, version + (1u << 8), PLQ_OTHER_VERSION},
+        {0, version + (1u << 31), PLQ_OTHER_VERSION},
+        {0, 3 - version, PLQ_WRONG_HEADER}, /* the other one, with which an image has more blocks, or fewer */
         {1, 0, PLQ_WRONG_HEADER},
         {1, PLQ_MOST_NODES + 1, PLQ_WRONG_HEADER},
         {1, n + 4000, PLQ_WRONG_HEADER}, /* two blocks more */
@@ -1142,6 +1271,7 @@ static void add_to_header(struct faults *faults, const struct tree *tree)
     };
     for (size_t i = 0; i < COUNT_OF(header); i++)
         add_fault(faults, header[i].code, 0, header[i].word, header[i].number);
+    if (tree->has_metres) add_fault(faults, PLQ_WRONG_HEADER, 0, 1, n + 126); /* a block of metres more */
 }
 
 /* Changes one bit, from 0, of the string whose first block is `first`, or one of those after its end. */
@@ -1178,18 +1308,27 @@ static void add_to_samples(struct faults *faults, const uint8_t *image, size_t f
     if (samples < room) add_fault(faults, PLQ_WRONG_COUNTS, end - 1, 125, 1u << 31);
 }
 
+/* Metres are never wrong, but what is after them can be. */
+static void add_to_metres(struct faults *faults, size_t end, uint32_t n)
+{
+    if (n % 126 == 0) return;
+    add_fault(faults, PLQ_WRONG_COUNTS, end - 1, n % 126, 1);
+    add_fault(faults, PLQ_WRONG_COUNTS, end - 1, 125, 1u << 31);
+}
+
 /* Every kind of fault in every part. None of them makes right what another, in another word, makes wrong. */
 static void make_faults(struct faults *faults, const struct tree *tree)
 {
     const uint8_t *image = tree->use[CHECK_IMAGE].before[0].at;
-    const struct layout first = layout_of(tree->n, tree->m);
+    const struct layout first = layout_of(tree->n, tree->m, tree->has_metres);
     uint32_t samples = (tree->m + 63) / 64;
     faults->count = 0;
     add_to_header(faults, tree);
     add_to_string(faults, image, first.r1, first.r0, tree->n);
     add_to_string(faults, image, first.r0, first.r1_samples, tree->n + 1);
     add_to_samples(faults, image, first.r1_samples, first.r0_samples, samples);
-    add_to_samples(faults, image, first.r0_samples, first.blocks, samples);
+    add_to_samples(faults, image, first.r0_samples, first.metres, samples);
+    if (tree->has_metres) add_to_metres(faults, first.blocks, tree->n);
 }
 
 static void put_faults(uint8_t *copy, content image, const struct fault *one, const struct fault *other)
@@ -1206,7 +1345,9 @@ static void refused_images(void)
     static struct faults faults;
     for (size_t i = 0; i < COUNT_OF(trees); i++) {
         content image = trees[i]->use[CHECK_IMAGE].before[0];
-        size_t blocks = image.bytes / PLQ_BLOCK_BYTES, step = few && trees[i] != &t ? 9 : 1;
+        /* the blocks of so many metres differ in nothing but in taking time */
+        size_t blocks = image.bytes / PLQ_BLOCK_BYTES, every_ninth = few ? is_large(trees[i]) : blocks > 100;
+        size_t step = every_ninth ? 9 : 1;
         uint8_t *copy = must(malloc(image.bytes));
         memcpy(copy, image.at, image.bytes);
         copy[image.bytes - 9] ^= 0x40;
@@ -1230,7 +1371,7 @@ static void every_two_faults(void)
     static struct faults faults;
     group = "two faults";
     for (size_t i = 0; i < COUNT_OF(trees); i++) {
-        if (few && trees[i] != &t) continue;
+        if (few ? is_large(trees[i]) : trees[i] == &path_with_metres) continue;
         attempt a = right_attempt(trees[i], CHECK_IMAGE, 0);
         content image = trees[i]->use[CHECK_IMAGE].before[0];
         make_faults(&faults, trees[i]);
@@ -1255,9 +1396,13 @@ static void refused_questions(void)
         for (enum call call = ASK; call <= ASK_QUESTIONS; call++) {
             const int32_t n = (int32_t)trees[i]->n;
             const plq_question bad[] = {{0, 1, 0},
-                                        {11, 1, 0},
+                                        {12, 1, 0},
                                         {-1, 1, 0},
                                         {INT32_MIN, 1, 0},
+                                        {PLQ_METRES, 0, 0},
+                                        {PLQ_METRES, n + 1, 0},
+                                        {PLQ_METRES, 1, trees[i]->has_metres ? 1 : 0},
+                                        {PLQ_METRES, n, trees[i]->has_metres ? -1 : 0},
                                         {PLQ_LEAF, 0, 0},
                                         {PLQ_LEAF, n + 1, 0},
                                         {PLQ_LEAF, -1, 0},
@@ -1313,7 +1458,7 @@ static void refused_rooms(void)
                 if (calls[call].list[list].use == READ) continue;
                 attempt a = right_attempt(trees[i], call, 0);
                 size_t needed = a.list[list].count, least = call == JOIN ? PLQ_BYTES_OF_BITS(a.bits) : 0;
-                size_t step = trees[i] == &t && !few ? 1 : needed / 4 + 1;
+                size_t step = few || is_large(trees[i]) ? needed / 4 + 1 : 1;
                 for (size_t room = least; room < needed; room++) {
                     if (room % step != 0 && room != needed - 1) continue;
                     resize(&a, list, calls[call].list[list].element * room);
@@ -1328,6 +1473,8 @@ static void refused_uses(void)
     group = "refused";
     memset(was_refused, 0, sizeof was_refused);
     refused_parents();
+    refused_metres();
+    refused_without_metres();
     refused_bits_of_the_page();
     refused_bits();
     refused_joins();
@@ -1348,8 +1495,8 @@ static void every_byte_damaged(void)
     group = "damage";
     for (enum call call = 0; call < CALLS; call++) {
         if (!reads_image(call)) continue;
-        attempt a = right_attempt(&t, call, 0);
-        for (size_t byte = 0; byte < 2560; byte += few ? 89 : 1) {
+        attempt a = right_attempt(&t_with_metres, call, 0);
+        for (size_t byte = 0; byte < a.list[0].bytes; byte += few ? 89 : 1) {
             uint8_t right = a.list[0].at[byte];
             const uint8_t others[] = {right ^ 0x01, right ^ 0x80, right ^ 0xFF, (uint8_t)(right + 3)};
             for (size_t i = 0; i < COUNT_OF(others); i++) {
@@ -1358,7 +1505,7 @@ static void every_byte_damaged(void)
             }
             a.list[0].at[byte] = right;
         }
-        expect_done(&a, &t, "all bytes as they were");
+        expect_done(&a, &t_with_metres, "all bytes as they were");
         end(&a);
     }
 }
@@ -1419,7 +1566,7 @@ static void random_uses(void)
     group = "random bytes";
     for (size_t length = 0; length < 3000; length += step)
         for (enum call call = 0; call < CALLS; call++) try_random_bytes(call, length);
-    for (size_t blocks = 0; blocks <= 54; blocks += step > 9 ? 9 : step)
+    for (size_t blocks = 0; blocks <= 575; blocks += blocks >= 54 ? 521 : step > 9 ? 9 : step)
         for (enum call call = 0; call < CALLS; call++)
             if (reads_image(call)) try_random_bytes(call, PLQ_BLOCK_BYTES * blocks);
 
@@ -1428,7 +1575,7 @@ static void random_uses(void)
         static const size_t sizes[] = {3, 12, 40, 300};
         uint32_t n = 1 + (uint32_t)below(i % 500 == 0 ? PLQ_MOST_NODES : sizes[i % COUNT_OF(sizes)]);
         struct tree tree;
-        make_tree(&tree, "a random tree", n, bushy_of(n, 1 + below(6)), n);
+        make_tree(&tree, "a random tree", n, bushy_of(n, 1 + below(6)), any_metres(n), i % 2 == 0, n);
         for (enum call call = 0; call < CALLS; call++) try_spoiled(&tree, call);
         drop_tree(&tree);
     }

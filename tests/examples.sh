@@ -5,19 +5,26 @@ for name in seal phone watch; do
 done
 passed "the examples compile without a warning"
 
+cp "$root/examples/diary.txt" "$root/examples/metres.txt" .
 cmp "$expected/diary.plq" diary.plq
-seal <"$root/examples/diary.txt" | cmp "$expected/diary.plq"
-passed "seal: the image of the example diary, byte for byte"
+seal <diary.txt | cmp "$expected/diary.plq"
+seal -m metres.txt diary.txt with-metres.plq
+cmp "$expected/diary-with-metres.plq" with-metres.plq
+seal -m metres.txt <diary.txt | cmp "$expected/diary-with-metres.plq"
+passed "seal: the image of the example diary, without metres and with them, byte for byte"
 
-seal "$root/examples/diary.txt" private.plq
+seal diary.txt private.plq
 chmod 640 private.plq
-seal "$root/examples/diary.txt" private.plq
+seal -m metres.txt diary.txt private.plq
 [ "$(stat -c %a private.plq)" = 640 ] || fail "seal: a new diary has other permissions than the old one"
 passed "seal: a new diary has the permissions of the old one"
 
 phone diary.plq 13 >phone.txt
 same "phone" "$expected/phone.txt" phone.txt
-passed "phone: seasons, weeks, and all kinds of questions"
+phone with-metres.plq 13 >phone-with-metres.txt
+same "phone, with metres" "$expected/phone-with-metres.txt" phone-with-metres.txt
+sed 's/, metres [0-9]*$//; /^  metres: [0-9]*$/d' phone-with-metres.txt | cmp phone.txt
+passed "phone: seasons, weeks, and all kinds of questions; metres where there are some, and no word of them elsewhere"
 
 watch >watch.txt
 same "watch" "$expected/watch.txt" watch.txt
@@ -28,14 +35,14 @@ done
 passed "watch: joined, split and read back; each changed bit refused"
 
 # Runs each command of the stored transcript again: the command, what it says, how it ends.
-cp "$root/examples/diary.txt" .
 : >empty.plq
 mkdir folder
 head -c 2559 diary.plq >short.plq
 head -c 2048 diary.plq >four-blocks.plq
 cat diary.plq diary.txt >longer.plq
 head -c 2560 /dev/zero >zeros.plq
-head -c 27648 /dev/zero >54-blocks.plq
+head -c 293888 /dev/zero >574-blocks.plq
+head -c 294400 /dev/zero >575-blocks.plq
 head -c 10000000 /dev/zero >huge.plq
 for block in 0 1 2 3 4; do
     cp diary.plq "damaged-$block.plq"
@@ -43,6 +50,10 @@ for block in 0 1 2 3 4; do
 done
 seq 0 64 | seal >path-of-65.plq
 seq 0 65 | seal >path-of-66.plq
+seq 51 >51-metres.txt
+seq 53 >53-metres.txt
+seq 65 >65-metres.txt
+seq 0 65534 >longest-path.txt
 awk 'BEGIN { print 0; for (i = 2; i <= 65535; i++) print 1 }' >65535-nodes.txt
 awk 'BEGIN { print 0; for (i = 2; i <= 65536; i++) print 1 }' >65536-nodes.txt
 awk 'BEGIN { print 0; for (i = 2; i <= 999999; i++) print 1 }' >999999-nodes.txt
@@ -57,6 +68,10 @@ head -c 5120 65535-nodes.plq >ten-blocks.plq
 mix diary.plq 1 path-of-65.plq mixed-strings.plq
 mix diary.plq 3 path-of-65.plq mixed-counts.plq # with two samples, and the diary has one
 mix path-of-65.plq 4 path-of-66.plq mixed-samples.plq
+head -c 2560 with-metres.plq >lost-metres.plq
+mix with-metres.plq 0 diary.plq metres-of-version-1.plq
+seq 0 64 | seal -m 65-metres.txt >path-of-65-with-metres.plq
+mix with-metres.plq 5 path-of-65-with-metres.plq mixed-metres.plq # with 65 numbers, and the diary has 52
 
 while read -r command; do
     echo "\$ $command"
@@ -89,9 +104,9 @@ compile phone-that-keeps-the-lock.c phone-that-keeps-the-lock -I"$root/examples"
 if replaced_while_shown ./phone-that-keeps-the-lock 1; then fail "locks: a phone that keeps the lock is not seen"; fi
 passed "locks: the container is free while the phone shows its copy; a phone that keeps the lock is seen"
 
-# two diaries of different lengths take turns in one container while it is read
+# two diaries of different lengths, one with metres, take turns in one container while it is read
 awk 'BEGIN { print "0 1 2"; for (i = 4; i <= 9000; i++) print 3 }' >long-week.txt
-(while [ ! -e enough ]; do seal long-week.txt container.plq && seal diary.txt container.plq; done) &
+(while [ ! -e enough ]; do seal -m long-week.txt long-week.txt container.plq && seal diary.txt container.plq; done) &
 for ((reading = 1; reading <= 100; reading++)); do
     phone container.plq >reading.txt 2>&1 || { touch enough && fail "phone: a torn copy: $(cat reading.txt)"; }
 done

@@ -7,13 +7,18 @@
 
 /* Constant expressions, and the values that docs/FORMAT.md has for them. */
 static uint32_t parents[PLQ_MOST_NODES], back[PLQ_MOST_NODES], pairs[PLQ_LISTING_NUMBERS(PLQ_MOST_NODES)];
+static uint32_t metres[PLQ_MOST_NODES];
 static uint8_t image[PLQ_IMAGE_ROOM(PLQ_MOST_NODES)], string[PLQ_STRING_BYTES(PLQ_MOST_NODES)];
+static uint8_t with_metres[PLQ_IMAGE_ROOM(PLQ_MOST_NODES) + PLQ_METRES_BYTES(PLQ_MOST_NODES)];
 _Static_assert(PLQ_IMAGE_BYTES(1, 1) == 2560, "the smallest image");
 _Static_assert(PLQ_IMAGE_BYTES(3999, 2) == 2560 && PLQ_IMAGE_BYTES(4000, 2) == 3072, "R0 has one bit more than R1");
 _Static_assert(PLQ_IMAGE_BYTES(4001, 2) == 3584, "R1 goes on in another block");
 _Static_assert(PLQ_IMAGE_BYTES(8064, 8064) == 4608 && PLQ_IMAGE_BYTES(8065, 8065) == 5632, "127 samples of each");
 _Static_assert(PLQ_IMAGE_BYTES(65535, 2) == 18944 && PLQ_IMAGE_BYTES(65535, 65535) == 27136, "65,535 nodes");
-_Static_assert(PLQ_IMAGE_ROOM(PLQ_MOST_NODES) == PLQ_MOST_IMAGE_BYTES, "the largest image");
+_Static_assert(PLQ_IMAGE_ROOM(PLQ_MOST_NODES) == PLQ_MOST_TREE_IMAGE_BYTES, "the largest image without metres");
+_Static_assert(PLQ_METRES_BYTES(126) == 512 && PLQ_METRES_BYTES(127) == 1024, "126 metres to a block");
+_Static_assert(PLQ_METRES_BYTES(PLQ_MOST_NODES) == 266752, "the most metres");
+_Static_assert(sizeof with_metres == PLQ_MOST_IMAGE_BYTES && PLQ_MOST_IMAGE_BYTES == 293888, "the largest image");
 _Static_assert(PLQ_STRING_BITS(7) == 15 && PLQ_STRING_BYTES(7) == 2, "the string of T");
 _Static_assert(PLQ_STRING_BITS(PLQ_MOST_NODES) == PLQ_MOST_BITS, "the longest string");
 _Static_assert(PLQ_BYTES_OF_BITS(0) == 0 && PLQ_BYTES_OF_BITS(8) == 1 && PLQ_BYTES_OF_BITS(9) == 2, "whole bytes");
@@ -52,6 +57,32 @@ static void try_image(size_t n, size_t m)
     expect("a byte less", n, m, plq_image_of_parents(parents, n, image, size - 1).code == PLQ_NO_ROOM);
 }
 
+/* The same with metres: all of it is as large as said, they come back, and they are what PLQ_METRES asks for. */
+static void try_metres(size_t n, size_t m)
+{
+    size_t size = at_most(PLQ_IMAGE_BYTES(n, m) + PLQ_METRES_BYTES(n), sizeof with_metres);
+    plq_question of_the_last = {PLQ_METRES, (int32_t)n, 0};
+    uint32_t answer = 0;
+    for (size_t i = 0; i < n; i++) metres[i] = (uint32_t)(i * 2654435761u); /* all of the 32 bits are used */
+    memset(with_metres, 0xEE, size);
+    plq_answer sealed = plq_image_with_metres(parents, n, metres, n, with_metres, size);
+    expect("PLQ_METRES_BYTES is enough", n, m, sealed.code == PLQ_DONE && sealed.first == n && sealed.second == m);
+    if (sealed.code != PLQ_DONE) return;
+    expect("plq_image_bytes with metres", n, m, plq_image_bytes(with_metres) == size);
+    plq_answer read = plq_metres_of_image(with_metres, size, back, n);
+    expect("metres read back", n, m, read.code == PLQ_DONE && memcmp(metres, back, n * sizeof *back) == 0);
+    plq_answer asked = plq_ask_questions(with_metres, size, &of_the_last, 1, &answer, 1);
+    expect("PLQ_METRES", n, m, asked.code == PLQ_DONE && answer == metres[n - 1]);
+    plq_answer less = plq_image_with_metres(parents, n, metres, n, with_metres, size - 1);
+    expect("a byte less with metres", n, m, less.code == PLQ_NO_ROOM);
+    /* with no room the code tells whether there are metres */
+    expect("no room for metres", n, m, plq_metres_of_image(with_metres, size, NULL, 0).code == PLQ_NO_ROOM);
+    plq_answer none = plq_metres_of_image(image, plq_image_bytes(image), NULL, 0);
+    expect("no metres", n, m, none.code == PLQ_NOT_ALLOWED && none.place == 1);
+    asked = plq_ask_questions(image, plq_image_bytes(image), &of_the_last, 1, &answer, 1);
+    expect("PLQ_METRES where there are none", n, m, asked.code == PLQ_NOT_ALLOWED && asked.place == 1);
+}
+
 static void try_string(size_t n, size_t m)
 {
     size_t bits = PLQ_STRING_BITS(n), bytes = PLQ_STRING_BYTES(n);
@@ -78,6 +109,7 @@ static void try_tree(size_t n, size_t m)
     make_tree(n, m);
     try_string(n, m);
     try_image(n, m);
+    if (m <= 2 || m == n) try_metres(n, m); /* their bytes do not depend on m */
     if (m <= 64) try_listing(n, m);
 }
 
@@ -91,6 +123,8 @@ static void try_trees(void)
             for (size_t samples = 0; samples <= 9; samples++)
                 for (size_t m = 8064 * samples; m <= 8064 * samples + 2; m++)
                     if (n > 300) try_tree(n, m);
+    for (size_t metre_blocks = 3; metre_blocks <= 520; metre_blocks += 47)
+        for (size_t n = 126 * metre_blocks - 1; n <= 126 * metre_blocks + 1; n++) try_tree(n, 2);
     for (size_t n = PLQ_MOST_NODES - 1; n <= PLQ_MOST_NODES; n++)
         for (size_t m = 2; m <= n; m += 8063) try_tree(n, m);
     try_tree(PLQ_MOST_NODES, PLQ_MOST_NODES);

@@ -10,7 +10,8 @@ cat >in-cpp.cpp <<'IN_CPP'
 #include <parlaqen.h>
 enum { ROOM = 100 };
 constexpr size_t bits = PLQ_STRING_BITS(ROOM);
-static_assert(PLQ_IMAGE_BYTES(PLQ_MOST_NODES, PLQ_MOST_NODES) == PLQ_MOST_IMAGE_BYTES, "the largest image");
+static_assert(PLQ_IMAGE_BYTES(PLQ_MOST_NODES, PLQ_MOST_NODES) == PLQ_MOST_TREE_IMAGE_BYTES, "without metres");
+static_assert(PLQ_IMAGE_ROOM(PLQ_MOST_NODES) + PLQ_METRES_BYTES(PLQ_MOST_NODES) == PLQ_MOST_IMAGE_BYTES, "the largest");
 static_assert(PLQ_BYTES_OF_BITS(bits) == PLQ_STRING_BYTES(ROOM) && PLQ_LISTING_NUMBERS(ROOM + 1) == 202, "sizes");
 uint8_t image[PLQ_IMAGE_ROOM(ROOM)];
 uint32_t first_child(int32_t node);
@@ -52,6 +53,10 @@ fault_is_seen "127 samples to a block" 's/, 64), 126)/, 64), 127)/'
 fault_is_seen "one list of samples" 's/2 \* PLQ_SHARES_(PLQ_SHARES_(m/1 * PLQ_SHARES_(PLQ_SHARES_(m/'
 fault_is_seen "an image without its header" 's/(PLQ_BLOCK_BYTES \* (1 + PLQ/(PLQ_BLOCK_BYTES * (0 + PLQ/'
 fault_is_seen "room for the least image" '/PLQ_IMAGE_ROOM(n) PLQ/s/BYTES(n, n)/BYTES(n, 1)/'
+fault_is_seen "127 metres to a block" '/define PLQ_METRES_BYTES/s/126/127/'
+fault_is_seen "metres without their sums" '/define PLQ_METRES_BYTES/s/PLQ_BLOCK_BYTES/504/'
+fault_is_seen "a limit without metres" 's/PLQ_MOST_IMAGE_BYTES = 293888/PLQ_MOST_IMAGE_BYTES = 27136/'
+fault_is_seen "another kind for metres" 's/PLQ_METRES = 11/PLQ_METRES = 12/'
 fault_is_seen "a string without its last zero" 's/(2 \* PLQ_SIZE_(n) + 1)/(2 * PLQ_SIZE_(n))/'
 fault_is_seen "bytes rounded down" 's/ + (PLQ_SIZE_(all) % (share) != 0)//'
 fault_is_seen "bytes rounded up by an addition that wraps" \
@@ -64,7 +69,7 @@ fault_is_seen "two codes with one text" 's/case PLQ_NO_ROOM: return "[^"]*"/case
 fault_is_seen "a code without a text" '/case PLQ_LEFTOVER_SET: return/d'
 fault_is_seen "a text for the number that is retired" '/case PLQ_NO_ROOM: return/s/case/case 7: return "7"; &/'
 fault_is_seen "a version string of another version" 's/PLQ_VERSION_STRING "[0-9]*/&9/'
-passed "header: 18 faults in its macros and functions are seen"
+passed "header: 22 faults in its macros and functions are seen"
 
 # An answer that nobody looks at.
 does_not_compile() { # MESSAGE LINE: with LINE in a function a program does not compile, and the compiler says MESSAGE
@@ -75,7 +80,8 @@ does_not_compile() { # MESSAGE LINE: with LINE in a function a program does not 
     grep -q "$1" misuse.txt || fail "header: not refused for '$1': $2"
 }
 for line in 'plq_string_of_parents(list, 1, image, 1);' 'plq_parents_of_string(image, 1, 3, list, 1);' \
-    'plq_image_of_parents(list, 1, image, 2560);' 'plq_parents_of_image(image, 2560, list, 1);' \
+    'plq_image_of_parents(list, 1, image, 2560);' 'plq_image_with_metres(list, 1, list, 1, image, 3072);' \
+    'plq_parents_of_image(image, 2560, list, 1);' 'plq_metres_of_image(image, 3072, list, 1);' \
     'plq_check_image(image, 2560);' 'plq_ask(image, 2560, 0, 0, list, 0);' \
     'plq_split(image, 0, 0, 0, list, 0, list, 0);' 'plq_join(image, 1, 0, 0, list, 1);' \
     'plq_list(image, 2560, 1, list, 2);' 'plq_ask_questions(image, 2560, 0, 0, list, 0);' \

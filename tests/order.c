@@ -1,10 +1,10 @@
-/* Each of the nine calls once through the header, done, and one refusal: with lists and numbers that are all different,
- * so that two parameters of a call, or two fields of the answer, that the header had in another order than the library
- * would give other answers or other lists. tests/order.sh compiles it with every such exchange and expects that it is
- * seen. It is not among the examples, since it shows nobody how to use the calls.
+/* Each of the eleven calls once through the header, done, and one refusal: with lists and numbers that are all
+ * different, so that two parameters of a call, or two fields of the answer, that the header had in another order than
+ * the library would give other answers or other lists. tests/order.sh compiles it with every such exchange and expects
+ * that it is seen. It is not among the examples, since it shows nobody how to use the calls.
  *
  * What is expected is that of docs/FORMAT.md: T has parents 0 1 1 1 2 2 4, string 101110110010000 (bytes BB 20) and
- * m = 4; the path 0 1 2 has string 1010100. Exit status: 0 if all is as expected. */
+ * m = 4, and its metres are 10 20 .. 70; the path 0 1 2 has string 1010100. Exit status: 0 if all is as expected. */
 #include <parlaqen.h>
 #include <stdio.h>
 #include <string.h>
@@ -12,8 +12,8 @@
 /* Every list is far longer than it is said to be: a length that comes from the wrong place does no harm before that.
  * What no call writes keeps the value 0xEE in every byte. */
 enum { ROOM = 4096 };
-static uint8_t image[ROOM], pack[ROOM];
-static uint32_t parents[ROOM], first_list[ROOM], second_list[ROOM];
+static uint8_t image[ROOM], with_metres[ROOM], pack[ROOM];
+static uint32_t parents[ROOM], metres[ROOM], first_list[ROOM], second_list[ROOM];
 static int32_t questions[ROOM];
 
 static int wrong;
@@ -28,6 +28,14 @@ static void expect(const char *what, int as_expected)
 static int answers(plq_answer answer, uint32_t code, uint32_t place, uint32_t first, uint32_t second)
 {
     return answer.code == code && answer.place == place && answer.first == first && answer.second == second;
+}
+
+/* Has each block of an image these two sums at its end? */
+static int has_sums(const uint8_t *blocks, const uint32_t (*sums)[2], size_t count)
+{
+    for (size_t block = 0; block < count; block++)
+        if (memcmp(blocks + 512 * block + 504, sums[block], 8) != 0) return 0;
+    return 1;
 }
 
 /* Does `list` begin with these numbers, and is what follows them as it was? */
@@ -51,12 +59,18 @@ int main(void)
     static const uint8_t string_of_t[] = {0xBB, 0x20};
     static const uint8_t t_and_one[] = {0xBB, 0x21, 0x00}, t_and_path[] = {0xBB, 0x21, 0x50};
     static const int32_t asked[] = {PLQ_PARENT, 7, 0, PLQ_CHILD_NUMBER, 2, 2};
+    static const uint32_t metres_of_t[] = {10, 20, 30, 40, 50, 60, 70};
     static const uint32_t sums[][2] = {{17, 2112}, {151, 18876}, {211, 26377}, {4, 504}, {5, 630}};
+    static const uint32_t sums_with_metres[][2] = {{19, 2361}, {151, 18876}, {211, 26377},
+                                                   {4, 504},   {5, 630},     {285, 34790}};
     static const uint32_t answered[] = {4, 6}, listed[] = {2, 0, 5, 1, 6, 1}, starts[] = {1, 16}, sizes[] = {7, 1};
     memset(image, 0xEE, sizeof image);
+    memset(with_metres, 0xEE, sizeof with_metres);
     memset(parents, 0xEE, sizeof parents);
+    memset(metres, 0xEE, sizeof metres);
     memset(questions, 0xEE, sizeof questions);
     memcpy(parents, t, sizeof t);
+    memcpy(metres, metres_of_t, sizeof metres_of_t);
     memcpy(questions, asked, sizeof asked);
 
     afresh();
@@ -67,12 +81,19 @@ int main(void)
     expect("its parents", has(first_list, t, sizeof t));
 
     expect("plq_image_of_parents", answers(plq_image_of_parents(parents, 7, image, 3000), PLQ_DONE, 0, 7, 4));
-    for (size_t block = 0; block < 5; block++)
-        expect("its sums", memcmp(image + 512 * block + 504, sums[block], 8) == 0);
+    expect("its sums", has_sums(image, sums, 5));
+
+    plq_answer sealed = plq_image_with_metres(parents, 7, metres, 7, with_metres, 3500);
+    expect("plq_image_with_metres", answers(sealed, PLQ_DONE, 0, 7, 4));
+    expect("its sums", has_sums(with_metres, sums_with_metres, 6));
 
     afresh();
     expect("plq_parents_of_image", answers(plq_parents_of_image(image, 2560, first_list, 9), PLQ_DONE, 0, 7, 0));
     expect("its parents", has(first_list, t, sizeof t));
+
+    afresh();
+    expect("plq_metres_of_image", answers(plq_metres_of_image(with_metres, 3072, first_list, 9), PLQ_DONE, 0, 7, 0));
+    expect("its metres", has(first_list, metres_of_t, sizeof metres_of_t));
 
     expect("plq_check_image", answers(plq_check_image(image, 2560), PLQ_DONE, 0, 7, 4));
 

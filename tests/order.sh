@@ -34,7 +34,9 @@ exchanges() {
 plq_string_of_parents ab cd
 plq_parents_of_string ab c de
 plq_image_of_parents ab cd
+plq_image_with_metres ab cd ef
 plq_parents_of_image ab cd
+plq_metres_of_image ab cd
 plq_check_image ab
 plq_ask ab cd ef
 plq_split ab c d ef gh
@@ -54,13 +56,17 @@ exchange_is_seen() { # EXCHANGE WORDS..: tests/order.c, compiled with these word
 # The parameters of a call and the fields of its answer have the order in the header that they have in the library.
 compile "$root/tests/order.c" order
 ./order
-passed "order: the nine calls through the header, with lists and numbers that are all different"
+passed "order: the eleven calls through the header, with lists and numbers that are all different"
 
 count=0
 exchanges >exchanges.txt
 while read -r exchange; do
-    # the two rooms of a split must each be enough, and nothing else depends on them: exchanged they say the same
-    [ "$exchange" != "plq_split(a,b,c,d,e,f,g,h)=plq_split(a,b,c,d,e,h,g,f)" ] || continue
+    # exchanged these say the same: the two rooms of a split must each be enough, and nothing else depends on them; the
+    # numbers of parents and of metres must be one number
+    case $exchange in
+    "plq_split(a,b,c,d,e,f,g,h)=plq_split(a,b,c,d,e,h,g,f)") continue ;;
+    "plq_image_with_metres(a,b,c,d,e,f)=plq_image_with_metres(a,d,c,b,e,f)") continue ;;
+    esac
     exchange_is_seen "$exchange" -D"$exchange"
     count=$((count + 1))
 done <exchanges.txt

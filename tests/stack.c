@@ -1,11 +1,11 @@
 /* How much stack does each call take? Each is made on a painted stack of its own, and the deepest byte that changed is
  * looked for. What the same way down takes with nothing in the place of the call is subtracted.
  *
- *     stack CALL BYTES [CALL BYTES ..]     what is claimed of each of the nine calls
+ *     stack CALL BYTES [CALL BYTES ..]     what is claimed of each of the eleven calls
  *
  * A claim must have room to spare: it is at least one and a half times what is measured, since another compiler, or
  * another machine, may take more. The inputs are those that go deepest: trees of 64 levels, the largest trees and
- * packs, as many trees and questions as there may be, and refusals that come late.
+ * packs, with metres and without, as many trees and questions as there may be, and refusals that come late.
  * It prints a table, and a line for each claim that does not hold. Exit status: 0 if all hold. */
 #define _DEFAULT_SOURCE /* MAP_ANONYMOUS, and ucontext with -std=c11 */
 #include <parlaqen.h>
@@ -20,7 +20,9 @@ enum call {
     STRING_OF_PARENTS,
     PARENTS_OF_STRING,
     IMAGE_OF_PARENTS,
+    IMAGE_WITH_METRES,
     PARENTS_OF_IMAGE,
+    METRES_OF_IMAGE,
     CHECK_IMAGE,
     ASK,
     SPLIT,
@@ -32,10 +34,12 @@ enum call {
 };
 
 static const char *const names[CALLS] = {"plq_string_of_parents", "plq_parents_of_string", "plq_image_of_parents",
-                                         "plq_parents_of_image",  "plq_check_image",       "plq_ask",
-                                         "plq_split",             "plq_join",              "plq_list"};
+                                         "plq_image_with_metres", "plq_parents_of_image",  "plq_metres_of_image",
+                                         "plq_check_image",       "plq_ask",               "plq_split",
+                                         "plq_join",              "plq_list"};
 
-/* One call: numbers, and the two kinds of lists. What is written goes to lists that are long enough for everything. */
+/* One call: numbers, and the two kinds of lists. What is written goes to lists that are long enough for everything.
+ * Where metres are taken, there are as many as parents. */
 typedef struct {
     enum call call;
     const uint32_t *parents;
@@ -47,7 +51,7 @@ typedef struct {
 
 enum { STACK_BYTES = 1 << 18, KNOWN_BYTES = 4096, LEVELS = 64, MOST_NUMBERS = 2 * PLQ_MOST_NODES };
 static uint8_t *stack; /* its lowest byte; a page below it may not be used */
-static uint32_t numbers_written[MOST_NUMBERS], more_numbers[PLQ_MOST_TREES];
+static uint32_t numbers_written[MOST_NUMBERS], more_numbers[PLQ_MOST_TREES], metres[PLQ_MOST_NODES];
 static uint8_t bytes_written[PLQ_MOST_IMAGE_BYTES];
 static ucontext_t here, there;
 static const input *current;
@@ -69,7 +73,10 @@ __attribute__((noinline)) static plq_answer make_call(const input *in)
     case STRING_OF_PARENTS: return plq_string_of_parents(in->parents, in->n, bytes_written, in->room);
     case PARENTS_OF_STRING: return plq_parents_of_string(in->bytes, in->nbytes, in->bits, numbers_written, in->room);
     case IMAGE_OF_PARENTS: return plq_image_of_parents(in->parents, in->n, bytes_written, in->room);
+    case IMAGE_WITH_METRES:
+        return plq_image_with_metres(in->parents, in->n, metres, in->n, bytes_written, in->room);
     case PARENTS_OF_IMAGE: return plq_parents_of_image(in->bytes, in->nbytes, numbers_written, in->room);
+    case METRES_OF_IMAGE: return plq_metres_of_image(in->bytes, in->nbytes, numbers_written, in->room);
     case CHECK_IMAGE: return plq_check_image(in->bytes, in->nbytes);
     case ASK: return plq_ask(in->bytes, in->nbytes, in->questions, in->numbers, numbers_written, in->room);
     case SPLIT:
@@ -189,11 +196,12 @@ static void make_sixty_five_levels(uint32_t *parents, size_t n)
 
 /* ---- Inputs ---- */
 
-static void ask_of(const uint8_t *image, size_t nbytes, size_t n)
+static void ask_of(const uint8_t *image, size_t nbytes, size_t n, int with_metres)
 {
     static int32_t questions[3 * PLQ_MOST_QUESTIONS];
+    int32_t last_kind = with_metres ? PLQ_METRES : PLQ_SIBLING_AT;
     for (int32_t i = 0; i < PLQ_MOST_QUESTIONS; i++) {
-        int32_t kind = 1 + i % 10;
+        int32_t kind = 1 + i % last_kind;
         questions[3 * i] = kind;
         questions[3 * i + 1] = 1 + (int32_t)((size_t)i * 257 % n);
         questions[3 * i + 2] = kind == PLQ_CHILD_NUMBER || kind == PLQ_SIBLING_AT ? i % 5 - 1 : 0;
@@ -201,7 +209,7 @@ static void ask_of(const uint8_t *image, size_t nbytes, size_t n)
     input in = {.call = ASK, .bytes = image, .nbytes = nbytes, .questions = questions, .room = PLQ_MOST_QUESTIONS};
     in.numbers = 3 * PLQ_MOST_QUESTIONS;
     measure(in);
-    for (int32_t kind = PLQ_PARENT; kind <= PLQ_SIBLING_AT; kind++) {
+    for (int32_t kind = PLQ_PARENT; kind <= last_kind; kind++) {
         const int32_t one_of_the_last[] = {kind, (int32_t)n, 0};
         in.questions = one_of_the_last;
         in.numbers = 3;
@@ -221,7 +229,7 @@ static void ask_of(const uint8_t *image, size_t nbytes, size_t n)
 static void refuse_image(const uint8_t *image, size_t nbytes, uint32_t code)
 {
     for (enum call call = 0; call < CALLS; call++)
-        if (call == PARENTS_OF_IMAGE || call == CHECK_IMAGE || call == ASK || call == LIST)
+        if (call == PARENTS_OF_IMAGE || call == METRES_OF_IMAGE || call == CHECK_IMAGE || call == ASK || call == LIST)
             measure((input){.call = call, .bytes = image, .nbytes = nbytes, .node = 1, .room = 1, .code = code});
 }
 
@@ -247,16 +255,18 @@ static void add_and_mend(uint8_t *image, size_t block, uint32_t word, uint32_t n
 static void refuse_faults(uint8_t *image, size_t nbytes, uint32_t n, uint32_t m)
 {
     size_t last = nbytes / PLQ_BLOCK_BYTES - 1, last_of_r0 = (n + 3999) / 4000 + (n + 1 + 3999) / 4000;
+    size_t last_of_samples = PLQ_IMAGE_BYTES(n, m) / PLQ_BLOCK_BYTES - 1;
     uint32_t last_bit = n % 4000, its_value = 0x80u >> last_bit % 8 << last_bit / 8 % 4 * 8; /* from 0 in its block */
     const struct {
         size_t block;
         uint32_t word, number, code;
     } faults[] = {
-        {0, 0, 1, PLQ_OTHER_VERSION},
+        {0, 0, 2, PLQ_OTHER_VERSION},
         {0, 125, 1, PLQ_WRONG_HEADER},
         {last_of_r0, 1 + last_bit / 32, 0 - its_value, PLQ_WRONG_STRINGS}, /* R0 without the one that ends it */
-        {last, 125, 1, PLQ_WRONG_COUNTS},                                  /* the last word after the samples */
-        {last, (m - 1) / 64 % 126, 1, PLQ_WRONG_SAMPLES},
+        {last_of_samples, 125, 1, PLQ_WRONG_COUNTS},                       /* the last word after the samples */
+        {last, 125, 1, PLQ_WRONG_COUNTS},                                  /* and, where there are some, the metres */
+        {last_of_samples, (m - 1) / 64 % 126, 1, PLQ_WRONG_SAMPLES},
     };
     for (size_t i = 0; i < sizeof faults / sizeof *faults; i++) {
         add_and_mend(image, faults[i].block, faults[i].word, faults[i].number);
@@ -265,35 +275,53 @@ static void refuse_faults(uint8_t *image, size_t nbytes, uint32_t n, uint32_t m)
     }
 }
 
-static void seal_and_read(const uint32_t *parents, size_t n, uint32_t listed, uint32_t code_of_listing)
+/* Every call that reads a right image: without metres, or with them, in which case all of them can be read back. */
+static void read_image(uint8_t *image, plq_answer sealed, uint32_t listed, uint32_t code_of_listing, int with_metres)
 {
-    static uint8_t image[PLQ_MOST_IMAGE_BYTES];
-    plq_answer sealed = plq_image_of_parents(parents, n, image, sizeof image);
-    size_t bytes = sealed.code == PLQ_DONE ? plq_image_bytes(image) : 0;
-    input seal = {.call = IMAGE_OF_PARENTS, .parents = parents, .n = n, .room = PLQ_MOST_IMAGE_BYTES};
+    size_t bytes = plq_image_bytes(image), n = sealed.first;
     input read = {.call = PARENTS_OF_IMAGE, .bytes = image, .nbytes = bytes, .room = n};
+    input read_metres = {.call = METRES_OF_IMAGE, .bytes = image, .nbytes = bytes, .room = n};
     input list = {.call = LIST, .bytes = image, .nbytes = bytes, .node = listed, .room = 2 * n};
-    measure(seal);
-    measure(read);
-    measure((input){.call = CHECK_IMAGE, .bytes = image, .nbytes = bytes});
+    read_metres.code = with_metres ? PLQ_DONE : PLQ_NOT_ALLOWED;
     list.code = code_of_listing;
+    measure(read);
+    measure(read_metres);
+    measure((input){.call = CHECK_IMAGE, .bytes = image, .nbytes = bytes});
     measure(list);
-    ask_of(image, bytes, n);
-    seal.room = bytes - 1;
-    seal.code = PLQ_NO_ROOM;
-    measure(seal);
+    ask_of(image, bytes, n, with_metres);
     read.room = n - 1;
     read.code = PLQ_NO_ROOM;
     measure(read);
+    if (with_metres) {
+        read_metres.room = n - 1;
+        read_metres.code = PLQ_NO_ROOM;
+        measure(read_metres);
+    }
     if (code_of_listing == PLQ_DONE) {
         list.room = 1;
         list.code = PLQ_NO_ROOM;
         measure(list);
     }
-    if (bytes == 0) return; /* it was not sealed, which has been said */
     refuse_faults(image, bytes, sealed.first, sealed.second);
     add_to_word(image + bytes - 4, 1);
     refuse_image(image, bytes, PLQ_WRONG_SUMS);
+}
+
+static void seal_and_read(const uint32_t *parents, size_t n, uint32_t listed, uint32_t code_of_listing)
+{
+    static uint8_t image[PLQ_MOST_IMAGE_BYTES];
+    for (int with_metres = 0; with_metres <= 1; with_metres++) {
+        plq_answer sealed = with_metres ? plq_image_with_metres(parents, n, metres, n, image, sizeof image)
+                                        : plq_image_of_parents(parents, n, image, sizeof image);
+        input seal = {.call = with_metres ? IMAGE_WITH_METRES : IMAGE_OF_PARENTS, .parents = parents, .n = n};
+        seal.room = PLQ_MOST_IMAGE_BYTES;
+        measure(seal);
+        if (sealed.code != PLQ_DONE) continue; /* it was not sealed, which has been said */
+        seal.room = plq_image_bytes(image) - 1;
+        seal.code = PLQ_NO_ROOM;
+        measure(seal);
+        read_image(image, sealed, listed, code_of_listing, with_metres);
+    }
 }
 
 static void write_and_read(const uint32_t *parents, size_t n)
@@ -334,7 +362,7 @@ static void refuse_parents(uint32_t *parents, size_t n)
     uint32_t last = parents[n - 1];
     parents[n - 1] = (uint32_t)n;
     for (enum call call = 0; call < CALLS; call++)
-        if (call == STRING_OF_PARENTS || call == IMAGE_OF_PARENTS || call == JOIN)
+        if (call == STRING_OF_PARENTS || call == IMAGE_OF_PARENTS || call == IMAGE_WITH_METRES || call == JOIN)
             measure((input){.call = call, .parents = parents, .n = n, .bytes = empty, .room = PLQ_MOST_IMAGE_BYTES,
                             .code = PLQ_NOT_PARENTS});
     parents[n - 1] = last;
@@ -379,6 +407,7 @@ static void use_pack(void (*make)(uint32_t *parents, size_t n), size_t n)
 static void use_all(void)
 {
     static const size_t sizes[] = {PLQ_MOST_NODES, 5000, 200};
+    for (size_t i = 0; i < PLQ_MOST_NODES; i++) metres[i] = (uint32_t)(UINT32_MAX - i);
     use_tree(make_path, 1, 1, PLQ_DONE);
     use_tree(make_path, LEVELS, 1, PLQ_DONE);
     use_tree(make_path, PLQ_MOST_NODES, PLQ_MOST_NODES - LEVELS + 1, PLQ_DONE);

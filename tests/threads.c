@@ -1,5 +1,6 @@
-/* Sixteen threads use one sealed image at the same time: each asks, lists, checks and reads parents back, into lists of
- * its own, and compares with what the parent list says. In between each seals, joins and splits data of its own.
+/* Sixteen threads use one sealed image at the same time: each asks, lists, checks and reads parents and metres back,
+ * into lists of its own, and compares with what it was made of. In between each seals, joins and splits data of its
+ * own.
  *
  *     threads [ROUNDS]     how often each thread does all of it
  *
@@ -14,12 +15,12 @@
 
 enum { THREADS = 16, NODES = 60000, OWN_NODES = 3000, PACKED = 8, ROUNDS = 400 };
 
-/* The tree that all of them read. What is expected of it is made here from the parent list alone, before they start. */
-static uint32_t parents[NODES];
+/* The tree that all of them read. What is expected of it is made here from the two lists alone, before they start. */
+static uint32_t parents[NODES], metres[NODES];
 static uint32_t first_child[NODES + 2];             /* by node; where it has none, the node that would come there */
 static uint32_t listing[2 * NODES];                 /* of the root */
 static uint32_t place[NODES + 1], below[NODES + 1]; /* by node: its place in the listing, how many are below it */
-static uint8_t image[PLQ_IMAGE_ROOM(NODES)];
+static uint8_t image[PLQ_IMAGE_ROOM(NODES) + PLQ_METRES_BYTES(NODES)];
 static size_t image_bytes;
 static uint32_t nodes_with_children;
 
@@ -35,8 +36,9 @@ struct worker {
     int32_t questions[3 * PLQ_MOST_QUESTIONS];
     uint32_t answers[PLQ_MOST_QUESTIONS], expected[PLQ_MOST_QUESTIONS];
     uint32_t pairs[2 * NODES], read_back[NODES];
-    uint32_t own_parents[OWN_NODES];
-    uint8_t own_image[PLQ_IMAGE_ROOM(OWN_NODES)], own_string[PLQ_STRING_BYTES(OWN_NODES)];
+    uint32_t own_parents[OWN_NODES], own_metres[OWN_NODES];
+    uint8_t own_image[PLQ_IMAGE_ROOM(OWN_NODES) + PLQ_METRES_BYTES(OWN_NODES)];
+    uint8_t own_string[PLQ_STRING_BYTES(OWN_NODES)];
     uint8_t pack[PLQ_BYTES_OF_BITS(PACKED * PLQ_STRING_BITS(OWN_NODES))];
 };
 
@@ -71,6 +73,11 @@ static void make_parents(uint64_t *chance, uint32_t *list, uint32_t n)
     }
 }
 
+static void make_metres(uint64_t *chance, uint32_t *list, uint32_t n)
+{
+    for (uint32_t i = 0; i < n; i++) list[i] = number_below(chance, UINT32_MAX);
+}
+
 static uint32_t degree(uint32_t node)
 {
     return first_child[node + 1] - first_child[node];
@@ -93,6 +100,7 @@ static void make_shared_tree(void)
 {
     uint64_t chance = 1;
     make_parents(&chance, parents, NODES);
+    make_metres(&chance, metres, NODES);
     for (uint32_t node = 1, child = 2; node <= NODES + 1; node++) {
         while (child <= NODES && parents[child - 1] < node) child++;
         first_child[node] = child;
@@ -101,7 +109,7 @@ static void make_shared_tree(void)
     make_listing(1, 0, 0);
 }
 
-static uint32_t answer_by_parents(int32_t kind, uint32_t node, int32_t argument)
+static uint32_t answer_by_lists(int32_t kind, uint32_t node, int32_t argument)
 {
     uint32_t parent = parents[node - 1], eldest = node == 1 ? 1 : first_child[parent];
     uint32_t youngest = node == 1 ? 1 : first_child[parent + 1] - 1;
@@ -117,6 +125,7 @@ static uint32_t answer_by_parents(int32_t kind, uint32_t node, int32_t argument)
     case PLQ_CHILD_NUMBER:
         return argument >= 1 && (uint32_t)argument <= degree(node) ? first_child[node] + (uint32_t)argument - 1 : 0;
     case PLQ_LEAF: return degree(node) == 0;
+    case PLQ_METRES: return metres[node - 1];
     default: return sibling >= eldest && sibling <= youngest ? (uint32_t)sibling : 0;
     }
 }
@@ -124,14 +133,14 @@ static uint32_t answer_by_parents(int32_t kind, uint32_t node, int32_t argument)
 static void ask(struct worker *worker)
 {
     for (size_t i = 0; i < PLQ_MOST_QUESTIONS; i++) {
-        int32_t kind = 1 + (int32_t)number_below(&worker->chance, 10), argument = 0;
+        int32_t kind = 1 + (int32_t)number_below(&worker->chance, PLQ_METRES), argument = 0;
         uint32_t node = 1 + number_below(&worker->chance, NODES);
         if (kind == PLQ_CHILD_NUMBER || kind == PLQ_SIBLING_AT)
             argument = (int32_t)number_below(&worker->chance, 9) - 4;
         worker->questions[3 * i] = kind;
         worker->questions[3 * i + 1] = (int32_t)node;
         worker->questions[3 * i + 2] = argument;
-        worker->expected[i] = answer_by_parents(kind, node, argument);
+        worker->expected[i] = answer_by_lists(kind, node, argument);
     }
     plq_answer asked = plq_ask(image, image_bytes, worker->questions, 3 * PLQ_MOST_QUESTIONS, worker->answers,
                                PLQ_MOST_QUESTIONS);
@@ -158,26 +167,47 @@ static void check_and_read(struct worker *worker)
     plq_answer read = plq_parents_of_image(image, image_bytes, worker->read_back, NODES);
     expect(worker, "plq_parents_of_image", answers(read, NODES, 0));
     expect(worker, "its parents", memcmp(worker->read_back, parents, sizeof parents) == 0);
+    read = plq_metres_of_image(image, image_bytes, worker->read_back, NODES);
+    expect(worker, "plq_metres_of_image", answers(read, NODES, 0));
+    expect(worker, "its metres", memcmp(worker->read_back, metres, sizeof metres) == 0);
 }
 
-/* A tree that no other thread has, as a string and as an image, and back. */
+/* Its own image, which must have been sealed with the counts n and m, back to what it was made of. */
+static void read_own(struct worker *worker, plq_answer sealed, uint32_t n, uint32_t m, int with_metres)
+{
+    size_t bytes = plq_image_bytes(worker->own_image), list_bytes = 4 * (size_t)n;
+    expect(worker, "its own tree sealed", answers(sealed, n, m));
+    plq_answer read = plq_parents_of_image(worker->own_image, bytes, worker->read_back, NODES);
+    expect(worker, "its own image read back", answers(read, n, 0));
+    expect(worker, "its own parents by image", memcmp(worker->read_back, worker->own_parents, list_bytes) == 0);
+    read = plq_metres_of_image(worker->own_image, bytes, worker->read_back, NODES);
+    if (with_metres) {
+        expect(worker, "its own metres read back", answers(read, n, 0));
+        expect(worker, "its own metres", memcmp(worker->read_back, worker->own_metres, list_bytes) == 0);
+    } else {
+        expect(worker, "no metres of its own", read.code == PLQ_NOT_ALLOWED && read.place == 1);
+    }
+}
+
+/* A tree that no other thread has, as a string and as an image, without metres and with them, and back. */
 static void seal_own(struct worker *worker)
 {
     uint32_t n = 1 + number_below(&worker->chance, OWN_NODES), with_children = 0;
     make_parents(&worker->chance, worker->own_parents, n);
+    make_metres(&worker->chance, worker->own_metres, n);
     for (uint32_t i = 1; i < n; i++) with_children += worker->own_parents[i] != worker->own_parents[i - 1];
 
     plq_answer sealed = plq_image_of_parents(worker->own_parents, n, worker->own_image, sizeof worker->own_image);
-    expect(worker, "plq_image_of_parents", answers(sealed, n, with_children + 1));
-    size_t bytes = plq_image_bytes(worker->own_image);
-    plq_answer read = plq_parents_of_image(worker->own_image, bytes, worker->read_back, NODES);
-    expect(worker, "its own image read back", answers(read, n, 0));
-    expect(worker, "its own parents by image", memcmp(worker->read_back, worker->own_parents, 4 * (size_t)n) == 0);
+    read_own(worker, sealed, n, with_children + 1, 0);
+    sealed = plq_image_with_metres(worker->own_parents, n, worker->own_metres, n, worker->own_image,
+                                   sizeof worker->own_image);
+    read_own(worker, sealed, n, with_children + 1, 1);
 
     plq_answer string = plq_string_of_parents(worker->own_parents, n, worker->own_string, sizeof worker->own_string);
     expect(worker, "plq_string_of_parents", answers(string, 2 * n + 1, 1));
     memset(worker->read_back, 0, 4 * (size_t)n);
-    read = plq_parents_of_string(worker->own_string, PLQ_STRING_BYTES(n), 2 * n + 1, worker->read_back, NODES);
+    plq_answer read =
+        plq_parents_of_string(worker->own_string, PLQ_STRING_BYTES(n), 2 * n + 1, worker->read_back, NODES);
     expect(worker, "plq_parents_of_string", answers(read, n, 0));
     expect(worker, "its own parents by string", memcmp(worker->read_back, worker->own_parents, 4 * (size_t)n) == 0);
 }
@@ -225,9 +255,9 @@ int main(int words, char **word)
         return 2;
     }
     make_shared_tree();
-    plq_answer sealed = plq_image_of_parents(parents, NODES, image, sizeof image);
+    plq_answer sealed = plq_image_with_metres(parents, NODES, metres, NODES, image, sizeof image);
     if (!answers(sealed, NODES, nodes_with_children + 1)) {
-        puts("plq_image_of_parents, of the tree for all: not as expected");
+        puts("plq_image_with_metres, of the tree for all: not as expected");
         return 1;
     }
     image_bytes = plq_image_bytes(image);

@@ -1,4 +1,4 @@
-//! The nine calls of the linked library.
+//! The eleven calls of the linked library.
 
 use crate::compare::call::Call;
 use crate::model::answers::Answer;
@@ -10,7 +10,16 @@ extern "C" {
     fn plq_string_of_parents(parents: *const u32, n: usize, bytes: *mut u8, room: usize) -> Answer;
     fn plq_parents_of_string(bytes: *const u8, nbytes: usize, bits: usize, parents: *mut u32, room: usize) -> Answer;
     fn plq_image_of_parents(parents: *const u32, n: usize, image: *mut u8, room: usize) -> Answer;
+    fn plq_image_with_metres(
+        parents: *const u32,
+        n: usize,
+        metres: *const u32,
+        metres_count: usize,
+        image: *mut u8,
+        room: usize,
+    ) -> Answer;
     fn plq_parents_of_image(image: *const u8, nbytes: usize, parents: *mut u32, room: usize) -> Answer;
+    fn plq_metres_of_image(image: *const u8, nbytes: usize, metres: *mut u32, room: usize) -> Answer;
     fn plq_check_image(image: *const u8, nbytes: usize) -> Answer;
     fn plq_ask(
         image: *const u8,
@@ -113,11 +122,34 @@ impl Library {
                 let answer = unsafe { plq_image_of_parents(lent_parents, parents.len(), lent_image, image.len()) };
                 Returned { answer, neighbours_kept: first.take_back(parents) & second.take_back(image) }
             }
+            Call::ImageWithMetres { parents, metres, image } => {
+                let lent_parents = first.lend(parents, placement);
+                let lent_metres = second.lend(metres, placement);
+                let lent_image = third.lend(image, placement);
+                let answer = unsafe {
+                    plq_image_with_metres(
+                        lent_parents,
+                        parents.len(),
+                        lent_metres,
+                        metres.len(),
+                        lent_image,
+                        image.len(),
+                    )
+                };
+                let inputs_kept = first.take_back(parents) & second.take_back(metres);
+                Returned { answer, neighbours_kept: inputs_kept & third.take_back(image) }
+            }
             Call::ParentsOfImage { image, parents } => {
                 let lent_image = first.lend(image, placement);
                 let lent_parents = second.lend(parents, placement);
                 let answer = unsafe { plq_parents_of_image(lent_image, image.len(), lent_parents, parents.len()) };
                 Returned { answer, neighbours_kept: first.take_back(image) & second.take_back(parents) }
+            }
+            Call::MetresOfImage { image, metres } => {
+                let lent_image = first.lend(image, placement);
+                let lent_metres = second.lend(metres, placement);
+                let answer = unsafe { plq_metres_of_image(lent_image, image.len(), lent_metres, metres.len()) };
+                Returned { answer, neighbours_kept: first.take_back(image) & second.take_back(metres) }
             }
             Call::CheckImage { image } => {
                 let lent_image = first.lend(image, placement);

@@ -1,17 +1,17 @@
 //! The script of the program `cases`, run through the model: what the program must print for it.
 //!
-//! A line is a word and numbers. A tree, and bytes in hand (a string, a pack or an image), stay from line to line. Each
-//! line is printed, and below it what the call answered and every list that it wrote to, which held 9s before. What the
-//! words mean is the program's to say (`main.rt` of crate `cases`, `material.rt` of `cases_script`); what the calls
-//! answer and write comes from the model alone.
+//! A line is a word and numbers. A tree, metres for its nodes, and bytes in hand (a string, a pack or an image), stay
+//! from line to line. Each line is printed, and below it what the call answered and every list that it wrote to, which
+//! held 9s before. What the words mean is the program's to say (`main.rt` of crate `cases`, `material.rt` of
+//! `cases_script`); what the calls answer and write comes from the model alone.
 
-use crate::model::answers::{Answer, Counts, Refusal};
+use crate::model::answers::{number, Answer, Counts, Refusal};
 use crate::model::calls;
 use crate::model::images::{seal, BLOCK_BYTES, MOST_BLOCKS};
 use crate::model::trees::MOST_NODES;
 
 /// One node and one block more than a tree and an image may have.
-const PARENTS: usize = MOST_NODES + 1;
+const NODES: usize = MOST_NODES + 1;
 const BYTES: usize = (MOST_BLOCKS + 1) * BLOCK_BYTES;
 /// The longest list that a call can be lent to write numbers to; each of the two of a split.
 const MOST_WORDS: usize = 65_536;
@@ -26,7 +26,8 @@ const MOST_TEXT: usize = 65_536;
 /// What the program prints for this script.
 pub fn printed(script: &str) -> String {
     assert!(script.len() <= MOST_TEXT, "the program reads no more than {MOST_TEXT} bytes of a script");
-    let mut run = Run { parents: vec![0; PARENTS], bytes: vec![0; BYTES], printed: String::new() };
+    let mut run =
+        Run { parents: vec![0; NODES], metres: vec![0; NODES], bytes: vec![0; BYTES], printed: String::new() };
     for line in script.split_inclusive('\n') {
         run.printed += line;
         run.obey(line);
@@ -65,6 +66,7 @@ impl Numbers {
 
 struct Run {
     parents: Vec<u32>,
+    metres: Vec<u32>,
     bytes: Vec<u8>,
     printed: String,
 }
@@ -76,6 +78,8 @@ impl Run {
         let numbers = Numbers::of(line);
         match word {
             "parents" | "grow" | "branches" | "mixed" => self.parents = planted(word, &numbers),
+            "metres" => self.metres = (0..NODES).map(|index| numbers.at(index)).collect(),
+            "rise" => self.metres = (0..number(NODES)).map(|before| risen(before, &numbers)).collect(),
             "hold" => {
                 self.bytes.fill(9);
                 self.bytes.iter_mut().zip(&numbers.0).for_each(|(byte, &number)| *byte = number as u8);
@@ -91,8 +95,8 @@ impl Run {
                     seal(&mut self.bytes[..blocks * BLOCK_BYTES]);
                 }
             }
-            "encode" | "image" | "join" => self.make(word, &numbers),
-            "decode" | "unseal" | "ask" | "list" => self.read(word, &numbers),
+            "encode" | "image" | "survey" | "join" => self.make(word, &numbers),
+            "decode" | "unseal" | "distances" | "ask" | "list" => self.read(word, &numbers),
             "check" => {
                 let result = calls::check_image(self.lent(&numbers));
                 self.answered(result);
@@ -113,9 +117,9 @@ impl Run {
         &self.bytes[..numbers.room(0, BYTES)]
     }
 
-    /// The tree's string or image in hand, or its string after the pack in hand.
+    /// The tree's string in hand, its image without metres or with so many, or its string after the pack in hand.
     fn make(&mut self, word: &str, numbers: &Numbers) {
-        let parents = &self.parents[..numbers.room(0, PARENTS)];
+        let parents = &self.parents[..numbers.room(0, NODES)];
         let room = numbers.room(1, BYTES);
         if word != "join" {
             // 9s as far as the room goes, and zeros after
@@ -126,6 +130,7 @@ impl Run {
         let result = match word {
             "encode" => calls::string_of_parents(parents, output),
             "image" => calls::image_of_parents(parents, output),
+            "survey" => calls::image_with_metres(parents, &self.metres[..numbers.room(2, NODES)], output),
             _ => calls::join(output, numbers.size(2), numbers.size(3), parents),
         };
         let written = output.to_vec();
@@ -139,15 +144,19 @@ impl Run {
         let result = match word {
             "decode" => calls::parents_of_string(lent, numbers.size(2), &mut list),
             "unseal" => calls::parents_of_image(lent, &mut list),
+            "distances" => calls::metres_of_image(lent, &mut list),
             "ask" => calls::ask(lent, &numbers.signed_from(2), &mut list),
             _ => calls::list(lent, numbers.at(2), &mut list),
         };
         self.answered(result);
         self.list("list", &list);
-        if word == "unseal" {
-            let equal = self.parents.iter().zip(&list).filter(|(parent, entry)| parent == entry).count();
-            self.printed += &format!("  equal {equal}\n");
-        }
+        let planted = match word {
+            "unseal" => &self.parents,
+            "distances" => &self.metres,
+            _ => return,
+        };
+        let equal = planted.iter().zip(&list).filter(|(planted, read)| planted == read).count();
+        self.printed += &format!("  equal {equal}\n");
     }
 
     /// The same questions about each of some nodes, all answers in sum.
@@ -205,7 +214,7 @@ impl Run {
 fn planted(word: &str, numbers: &Numbers) -> Vec<u32> {
     let mut parents = Vec::new();
     let (mut parent, mut seed) = (0, 1);
-    for (index, before) in (0..PARENTS).zip(0u32..) {
+    for (index, before) in (0..NODES).zip(0u32..) {
         parent = match word {
             "parents" => numbers.at(index),
             // a path, whose last node has all later ones as children
@@ -217,6 +226,11 @@ fn planted(word: &str, numbers: &Numbers) -> Vec<u32> {
         seed = (seed * 75 + 74) % 65_537;
     }
     parents
+}
+
+/// The metres of the node that has so many before it: those of the first node, and as many more for each, modulo 2^32.
+fn risen(before: u32, numbers: &Numbers) -> u32 {
+    numbers.at(0).wrapping_add(before.wrapping_mul(numbers.at(1)))
 }
 
 /// The parent of the node that has so many before it: branches side by side below the root, of which only the last

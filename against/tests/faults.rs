@@ -4,10 +4,10 @@
 use against::compare::layout::with_words;
 use against::compare::random::Random;
 use against::compare::shapes::{all_trees, parent_list, Shape};
-use against::compare::twelve_cases::image_of_t;
+use against::compare::twelve_cases::{image_of_t, image_of_t_with_metres, T};
 use against::model::answers::{number, Answer};
 use against::model::calls::check_image;
-use against::model::images::{image_of_tree, m_of, partition, BLOCK_BYTES};
+use against::model::images::{image_of_tree, m_of, partition, seal, BLOCK_BYTES};
 use against::model::outline::outline;
 use against::model::strings::string_of_tree;
 use against::model::trees::Tree;
@@ -15,9 +15,12 @@ use against::model::trees::Tree;
 /// Block, word in it, and its new value.
 type Edit = (usize, usize, u32);
 
+fn tree_of(shape: Shape, n: usize) -> Tree {
+    Tree::of_parent_list(&parent_list(shape, n, &mut Random::new(1))).expect("made as a tree")
+}
+
 fn image_of(shape: Shape, n: usize) -> Vec<u8> {
-    let parents = parent_list(shape, n, &mut Random::new(1));
-    image_of_tree(&Tree::of_parent_list(&parents).expect("made as a tree"))
+    image_of_tree(&tree_of(shape, n), None)
 }
 
 fn code_and_place(image: &[u8]) -> (u32, u32) {
@@ -49,7 +52,8 @@ fn one_fault_in_the_image_of_t() {
             (&[], (0, 0)),
             (&[(1, 1, bits("1001011")), (2, 1, bits("11010001"))], (0, 0)), // as it was
             (&[(0, 0, 0)], (11, 0)),
-            (&[(0, 0, 2)], (11, 0)),
+            (&[(0, 0, 2)], (12, 0)), // with metres it takes 6 blocks
+            (&[(0, 0, 3)], (11, 0)),
             (&[(0, 0, 0x0100_0001)], (11, 0)),
             (&[(0, 1, 0)], (12, 0)),
             (&[(0, 2, 0)], (12, 0)),
@@ -95,10 +99,10 @@ fn two_faults_in_the_image_of_t() {
     expect(
         &image_of_t(),
         &[
-            (&[(0, 0, 2), (0, 1, 0)], (11, 0)),
-            (&[(0, 0, 2), (1, 1, 0)], (11, 0)),
-            (&[(0, 0, 2), (1, 0, 1)], (11, 0)),
-            (&[(0, 0, 2), (3, 0, 2)], (11, 0)),
+            (&[(0, 0, 3), (0, 1, 0)], (11, 0)),
+            (&[(0, 0, 3), (1, 1, 0)], (11, 0)),
+            (&[(0, 0, 3), (1, 0, 1)], (11, 0)),
+            (&[(0, 0, 3), (3, 0, 2)], (11, 0)),
             (&[(0, 4, 1), (1, 1, 0)], (12, 0)),
             (&[(0, 4, 1), (1, 0, 1)], (12, 0)),
             (&[(0, 4, 1), (3, 0, 2)], (12, 0)),
@@ -115,11 +119,83 @@ fn two_faults_in_the_image_of_t() {
         ],
     );
     // all sums come first, and the size before them
-    let mut image = with_words(&image_of_t(), &[(0, 0, 2), (1, 1, 0), (3, 0, 2)]);
+    let mut image = with_words(&image_of_t(), &[(0, 0, 3), (1, 1, 0), (3, 0, 2)]);
     image[4 * BLOCK_BYTES] ^= 1;
     assert_eq!(code_and_place(&image), (6, 4));
     image.push(0);
     assert_eq!(code_and_place(&image), (2, 0));
+}
+
+#[test]
+fn faults_in_the_image_of_t_with_metres() {
+    expect(
+        &image_of_t_with_metres(),
+        &[
+            (&[], (0, 0)),
+            (&[(0, 0, 0)], (11, 0)),
+            (&[(0, 0, 1)], (12, 0)), // without metres it takes 5 blocks
+            (&[(0, 0, 3)], (11, 0)),
+            (&[(0, 0, 1), (0, 3, 5)], (12, 0)), // the file has 6
+            (&[(0, 3, 5)], (12, 0)),
+            (&[(0, 3, 7)], (12, 0)),
+            (&[(0, 1, 3_999)], (12, 0)), // it takes 37 blocks
+            (&[(0, 1, 127)], (12, 0)),   // and it 7
+            (&[(0, 1, 126)], (13, 1)),
+            (&[(0, 1, 8)], (13, 1)),
+            (&[(0, 4, 1)], (12, 0)),
+            // no metres are wrong
+            (&[(5, 0, 0)], (0, 0)),
+            (&[(5, 6, u32::MAX)], (0, 0)),
+            (&[(5, 0, 0), (5, 1, 0), (5, 2, 0), (5, 3, 0), (5, 4, 0), (5, 5, 0), (5, 6, 0)], (0, 0)),
+            // there are 7 of them
+            (&[(5, 7, 1)], (14, 5)),
+            (&[(5, 125, 1 << 31)], (14, 5)),
+            (&[(5, 7, 1), (4, 1, 1)], (14, 4)),
+            (&[(5, 7, 1), (4, 0, 2)], (14, 5)), // whatever block the sample is in
+            (&[(5, 7, 1), (1, 1, 0)], (13, 1)),
+            (&[(5, 6, 0), (4, 0, 2)], (15, 4)),
+        ],
+    );
+    let mut image = image_of_t_with_metres();
+    image[5 * BLOCK_BYTES] ^= 1;
+    assert_eq!(code_and_place(&image), (6, 5));
+}
+
+/// Blocks: 0 the header, 1 R1, 2 R0, 3 and 4 the samples, 5 and 6 the metres.
+#[test]
+fn a_star_of_127_nodes_with_metres() {
+    let metres: Vec<u32> = (1..=127).collect();
+    let image = image_of_tree(&tree_of(Shape::Star, 127), Some(&metres));
+    assert_eq!(image.len(), 7 * BLOCK_BYTES);
+    expect(
+        &image,
+        &[
+            (&[(5, 0, 1), (5, 125, 126), (6, 0, 127)], (0, 0)), // as it was
+            (&[(5, 125, 0), (6, 0, 0)], (0, 0)),
+            (&[(6, 1, 1)], (14, 6)),
+            (&[(6, 125, 1)], (14, 6)),
+            (&[(6, 1, 1), (3, 1, 1)], (14, 3)),
+            (&[(0, 1, 126)], (12, 0)), // it takes 6 blocks
+            (&[(0, 1, 252)], (13, 1)),
+            (&[(0, 1, 253)], (12, 0)), // and it 8
+        ],
+    );
+}
+
+/// "Images not of 5 to 574 blocks" are code 2, whatever their version.
+#[test]
+fn more_blocks_than_an_image_of_the_version_has() {
+    for (blocks, expected) in [(54, 12), (96, 12), (574, 12), (575, 2)] {
+        for version in [1, 2] {
+            let mut image = with_words(&image_of_t(), &[(0, 0, version), (0, 3, blocks)]);
+            image.resize(blocks as usize * BLOCK_BYTES, 0);
+            // s of block 5 begins at 5
+            let with_zeros = if expected == 2 { (2, 0) } else { (6, 5) };
+            assert_eq!(code_and_place(&image), with_zeros, "{blocks} blocks of version {version}");
+            seal(&mut image);
+            assert_eq!(code_and_place(&image), (expected, 0), "{blocks} blocks of version {version}, right sums");
+        }
+    }
 }
 
 #[test]
@@ -206,7 +282,8 @@ struct Small {
     m: u32,
     r1: String,
     r0: String,
-    image: Vec<u8>,
+    /// Without metres, and with 0 for each node.
+    images: [Vec<u8>; 2],
 }
 
 fn text(string: &[bool]) -> String {
@@ -218,7 +295,9 @@ fn small_trees() -> Vec<Small> {
         let tree = Tree::of_parent_list(&parents).expect("a tree");
         let (r1, r0) = partition(&string_of_tree(&tree));
         let (n, m) = (number(parents.len()), number(m_of(&tree)));
-        Small { n, m, r1: text(&r1), r0: text(&r0), image: image_of_tree(&tree) }
+        let zeros = vec![0; parents.len()];
+        let images = [None, Some(zeros.as_slice())].map(|metres| image_of_tree(&tree, metres));
+        Small { n, m, r1: text(&r1), r0: text(&r0), images }
     });
     trees.collect()
 }
@@ -248,19 +327,26 @@ fn code_and_place_by_trying(trees: &[Small], n: u32, m: u32, r1: &str, r0: &str)
     }
 }
 
-/// Every n and m up to 5 with every R1 and R0 of up to 4 nodes: compared with all trees of up to 5 nodes, one by one.
+/// Every n and m up to 5 with every R1 and R0 of up to 4 nodes, in both versions: compared with all trees of up to 5
+/// nodes, one by one.
 #[test]
 fn every_small_header_and_pair_of_strings() {
     let trees = small_trees();
+    let tree = Tree::of_parent_list(&T).expect("a tree");
+    let images_of_t = [image_of_t(), image_of_tree(&tree, Some(&[0; 7]))];
     let texts = |length: usize| (0..1 << length).map(move |value: u32| format!("{value:0length$b}"));
     let mut seen = [0; 16];
     for (r1, r0) in (1..=4).flat_map(|n| texts(n).flat_map(move |r1| texts(n + 1).map(move |r0| (r1.clone(), r0)))) {
         for (n, m) in (0..=5).flat_map(|n| (0..=5).map(move |m| (n, m))) {
-            let image = with_words(&image_of_t(), &[(0, 1, n), (0, 2, m), (1, 1, bits(&r1)), (2, 1, bits(&r0))]);
+            let words = [(0, 1, n), (0, 2, m), (1, 1, bits(&r1)), (2, 1, bits(&r0))];
             let expected = code_and_place_by_trying(&trees, n, m, &r1, &r0);
-            assert_eq!(code_and_place(&image), expected, "n {n}, m {m}, R1 {r1}, R0 {r0}");
-            assert_eq!(expected.0 == 0, trees.iter().any(|tree| tree.image == image), "accepted if a tree gives it");
-            assert_eq!(code_and_place(&with_words(&image, &[(0, 0, 3)])), (11, 0), "whatever else is wrong");
+            for (version, image_of_t) in images_of_t.iter().enumerate() {
+                let image = with_words(image_of_t, &words);
+                assert_eq!(code_and_place(&image), expected, "n {n}, m {m}, R1 {r1}, R0 {r0}");
+                let given = trees.iter().any(|tree| tree.images[version] == image);
+                assert_eq!(expected.0 == 0, given, "accepted if a tree gives it");
+                assert_eq!(code_and_place(&with_words(&image, &[(0, 0, 3)])), (11, 0), "whatever else is wrong");
+            }
             seen[expected.0 as usize] += 1;
         }
     }

@@ -8,14 +8,15 @@ use against::compare::call::Call;
 use against::compare::layout::{place_of_bit, Layout};
 use against::compare::random::Random;
 use against::compare::shapes::{parent_list, Shape};
-use against::compare::twelve_cases::T;
+use against::compare::twelve_cases::{METRES_OF_T, T};
 use against::library::Library;
 use against::model::answers::Answer;
 use against::model::bits::{bits_of_bytes, bytes_for, bytes_of_bits};
 use against::model::images::{
     candidate, image_of_strings, image_of_tree, ones_in, partition, seal, sums_of_block, BITS_IN_BLOCK, BLOCK_BYTES,
-    MOST_BLOCKS, PAYLOAD_BYTES, PAYLOAD_WORDS, SAMPLE_STEP,
+    MOST_BLOCKS, PAYLOAD_BYTES, PAYLOAD_WORDS, SAMPLE_STEP, WITHOUT_METRES, WITH_METRES,
 };
+use against::model::outline::{MOST_BLOCKS_READ, MOST_NODES_LISTED};
 use against::model::packs::{parts_of_bits, MOST_TREES};
 use against::model::questions::MOST_QUESTIONS;
 use against::model::strings::{string_of_tree, MOST_BITS};
@@ -449,7 +450,9 @@ impl Scope<'_> {
             (Some(example), [Formula::Named(string, _), place]) if ["R1", "R0"].contains(&string.as_str()) => {
                 Some(example.of_string(name, string, index(place)?))
             }
-            (Some(example), [node]) if ["entry", "degree"].contains(&name) => Some(example.of_node(name, index(node)?)),
+            (Some(example), [node]) if ["entry", "degree", "metres"].contains(&name) => {
+                Some(example.of_node(name, index(node)?))
+            }
             _ => None,
         };
         if let Some(value) = of_tree {
@@ -558,8 +561,8 @@ fn try_bits(trial: &mut Trial, known: &Known) -> Checked {
 
 /// Where everything is in the image of a tree.
 fn try_layout(trial: &mut Trial, example: &Example) -> Checked {
-    let layout = Layout::of(example.n(), example.m());
-    let image = &example.image;
+    let layout = Layout::of(example.n(), example.m(), true);
+    let Example { image, with_metres, .. } = example;
     for (name, right) in [
         ("ones_in_string", ones_in(&example.string)),
         ("zeros_in_string", example.string.len() - ones_in(&example.string)),
@@ -577,6 +580,10 @@ fn try_layout(trial: &mut Trial, example: &Example) -> Checked {
         ("r0_samples_first", layout.r0_samples.start),
         ("blocks", layout.r0_samples.end),
         ("image_bytes", image.len()),
+        ("metres_first", layout.metres.start),
+        ("metre_blocks", layout.metres.len()),
+        ("blocks_with_metres", layout.blocks()),
+        ("image_bytes_with_metres", with_metres.len()),
     ] {
         trial.expect(example, name, &[], right)?;
     }
@@ -612,6 +619,12 @@ fn try_layout(trial: &mut Trial, example: &Example) -> Checked {
             if right != Some(word_at(image, offset)? as usize) {
                 return Err(format!("sample {sample} is not where sample_at says"));
             }
+        }
+    }
+    for node in [1, 2, 125, 126, 127, 252, 253, example.n()].into_iter().filter(|&node| node <= example.n()) {
+        let offset = trial.value(example, "metres_at", &[node])?;
+        if word_at(with_metres, offset)? != example.metres[node - 1] {
+            return Err(format!("the metres of node {node} are not where metres_at says"));
         }
     }
     Ok(())
@@ -662,7 +675,7 @@ fn try_runs(trial: &mut Trial, known: &Known) -> Checked {
     Ok(())
 }
 
-/// The ten formulas in the table of kinds give the answers of model and library.
+/// The formulas in the table of kinds give the answers of model and library.
 fn check_kinds(document: &mut Document, definitions: &Definitions, known: &Known) -> Checked {
     let cells = document.table(KINDS)?.into_iter().filter_map(|mut row| row.pop());
     let formulas: Vec<(Formula, Range<usize>)> =
@@ -701,7 +714,9 @@ struct Example {
     r0: Vec<bool>,
     m: usize,
     image: Vec<u8>,
-    /// Questions with their answers.
+    metres: Vec<u32>,
+    with_metres: Vec<u8>,
+    /// Questions with their answers, where there are metres.
     answers: Vec<([i32; 3], u32)>,
 }
 
@@ -710,8 +725,10 @@ impl Example {
         let tree = Tree::of_parent_list(parents).expect("a parent list");
         let string = string_of_tree(&tree);
         let (r1, r0) = partition(&string);
-        let (m, image) = (ones_in(&r1), image_of_tree(&tree));
-        Example { tree, string, r1, r0, m, image, answers: Vec::new() }
+        let (m, image) = (ones_in(&r1), image_of_tree(&tree, None));
+        let metres: Vec<u32> = (1..).take(parents.len()).map(|node| 10 * node).collect();
+        let with_metres = image_of_tree(&tree, Some(&metres));
+        Example { tree, string, r1, r0, m, image, metres, with_metres, answers: Vec::new() }
     }
 
     /// `bit(S, i)`, `left(S, i)` and `position(S, k)`, where the string has such a place.
@@ -725,10 +742,14 @@ impl Example {
         }
     }
 
-    /// `entry(i)` and `degree(x)`, where the tree has such a node.
+    /// `entry(i)`, `degree(x)` and `metres(x)`, where the tree has such a node.
     fn of_node(&self, function: &str, node: usize) -> Option<usize> {
         let known = self.tree.nodes().contains(&node);
-        known.then(|| if function == "entry" { self.tree.parent(node) } else { self.tree.children(node).len() })
+        known.then(|| match function {
+            "entry" => self.tree.parent(node),
+            "degree" => self.tree.children(node).len(),
+            _ => self.metres[node - 1] as usize,
+        })
     }
 
     fn n(&self) -> usize {
@@ -776,11 +797,17 @@ impl Both {
         self.run(Call::CheckImage { image }).0
     }
 
-    fn image(&mut self, parents: &[u32]) -> (Answer, Vec<u8>) {
-        let right = image_of_tree(&Tree::of_parent_list(parents).expect("a parent list"));
-        let (answer, call) =
-            self.run(Call::ImageOfParents { parents: parents.to_vec(), image: vec![0xEE; right.len()] });
-        let Call::ImageOfParents { image, .. } = call else { unreachable!("the same call") };
+    fn image(&mut self, parents: &[u32], metres: Option<&[u32]>) -> (Answer, Vec<u8>) {
+        let right = image_of_tree(&Tree::of_parent_list(parents).expect("a parent list"), metres);
+        let (parents, image) = (parents.to_vec(), vec![0xEE; right.len()]);
+        let call = match metres {
+            None => Call::ImageOfParents { parents, image },
+            Some(metres) => Call::ImageWithMetres { parents, metres: metres.to_vec(), image },
+        };
+        let (answer, call) = self.run(call);
+        let (Call::ImageOfParents { image, .. } | Call::ImageWithMetres { image, .. }) = call else {
+            unreachable!("the same call")
+        };
         (answer, image)
     }
 
@@ -823,7 +850,7 @@ impl Both {
 }
 
 fn image_of_shape(shape: Shape, n: usize) -> Vec<u8> {
-    image_of_tree(&Tree::of_parent_list(&parents_of_shape(shape, n)).expect("made as a tree"))
+    image_of_tree(&Tree::of_parent_list(&parents_of_shape(shape, n)).expect("made as a tree"), None)
 }
 
 fn parents_of_shape(shape: Shape, n: usize) -> Vec<u32> {
@@ -910,28 +937,31 @@ impl Known {
         let mut both = Both { library: Library::new() };
         let header = read("include/parlaqen.h");
         let t = Example::of(&T);
-        let image = both.image(&T).1;
+        let image = both.image(&T, None).1;
         assert!(image == t.image && image.len() == 5 * BLOCK_BYTES);
+        assert!(both.image(&T, Some(&METRES_OF_T)).1 == t.with_metres && t.metres == METRES_OF_T);
 
         let mut small = vec![Example::of(&T)];
         small.extend((1..=5).flat_map(every_tree).map(|parents| Example::of(&parents)));
         for example in &mut small {
             example.answers = every_answer(&mut both, example);
         }
-        let sizes =
-            [63, 64, 65, 128, 129, 3_999, 4_000, 4_001, 7_999, 8_000, 8_001, 8_064, 8_065, 16_128, 16_129, MOST_NODES];
+        let sizes = [
+            63, 64, 65, 125, 126, 127, 128, 129, 252, 253, 3_999, 4_000, 4_001, 7_999, 8_000, 8_001, 8_064, 8_065,
+            16_128, 16_129, MOST_NODES,
+        ];
         let shapes = [Shape::Path, Shape::Star, Shape::Comb, Shape::Bushy];
         let large = sizes.into_iter().flat_map(|n| shapes.map(|shape| Example::of(&parents_of_shape(shape, n))));
 
         let mut random = Random::new(1);
         let mut payloads: Vec<(usize, Vec<u8>)> =
             image.chunks(BLOCK_BYTES).map(|block| block[..PAYLOAD_BYTES].to_vec()).enumerate().collect();
-        payloads.extend((0..MOST_BLOCKS).map(|block| (block, random.bytes(PAYLOAD_BYTES))));
+        payloads.extend((0..MOST_BLOCKS).rev().step_by(11).map(|block| (block, random.bytes(PAYLOAD_BYTES))));
 
         let pairs = (1..=5).flat_map(|n| every_string(n).flat_map(move |r1| iter::repeat(r1).zip(every_string(n + 1))));
         let pairs = pairs.map(|(r1, r0)| {
-            let image = image_of_strings(&r1, &r0);
-            let of_tree = candidate(&image).is_some_and(|tree| image_of_tree(&tree) == image);
+            let image = image_of_strings(&r1, &r0, None);
+            let of_tree = candidate(&image).is_some_and(|tree| image_of_tree(&tree, None) == image);
             (Example { m: ones_in(&r1), r1, r0, ..Example::of(&[0]) }, of_tree)
         });
 
@@ -958,13 +988,15 @@ impl Known {
 /// The answers to all kinds of questions about all nodes.
 fn every_answer(both: &mut Both, example: &Example) -> Vec<([i32; 3], u32)> {
     let nodes = 1..=example.n() as i32;
-    let kinds = (1..=10).flat_map(|kind| {
+    let kinds = (1..=11).flat_map(|kind| {
         let arguments = if kind == 8 || kind == 10 { -3..=4 } else { 0..=0 };
         arguments.map(move |argument| (kind, argument))
     });
     let questions: Vec<[i32; 3]> =
         kinds.flat_map(|(kind, argument)| nodes.clone().map(move |node| [kind, node, argument])).collect();
-    questions.chunks(MOST_QUESTIONS).flat_map(|some| some.iter().copied().zip(both.ask(&example.image, some))).collect()
+    let answered =
+        |some: &[[i32; 3]]| some.iter().copied().zip(both.ask(&example.with_metres, some)).collect::<Vec<_>>();
+    questions.chunks(MOST_QUESTIONS).flat_map(answered).collect()
 }
 
 type Tables = Vec<(&'static str, Vec<Vec<String>>)>;
@@ -978,7 +1010,7 @@ fn tables_of_forms(both: &mut Both) -> Tables {
     let examples = trees.map(|parents| {
         let Example { string, r1, r0, image, .. } = Example::of(parents);
         let (made, bytes) = both.string(parents);
-        let (sealed, by_both) = both.image(parents);
+        let (sealed, by_both) = both.image(parents, None);
         assert!(bytes == bytes_of_bits(&string) && by_both == image);
         let (bits, ones, zeros) = (bit_text(&string), bit_text(&r1), bit_text(&r0));
         row![list_text(parents), sealed.first, made.first, bits, byte_text(&bytes), ones, zeros, sealed.second]
@@ -1022,12 +1054,14 @@ fn tables_of_images(both: &mut Both) -> Tables {
         row![word(PAYLOAD_WORDS), "s"],
         row![word(PAYLOAD_WORDS + 1), "t"],
     ];
-    let image = both.image(&T).1;
-    let header: Vec<u32> = (0..PAYLOAD_WORDS).map(|word| word_at(&image, 4 * word).expect("in the header")).collect();
-    assert_eq!(header[1..4], [7, 4, 5]);
-    assert!(header[4..].iter().all(|&reserved| reserved == 0));
+    let [without, with] = [None, Some(METRES_OF_T.as_slice())].map(|metres| {
+        let image = both.image(&T, metres).1;
+        (0..PAYLOAD_WORDS).map(|word| word_at(&image, 4 * word).expect("in the header")).collect::<Vec<u32>>()
+    });
+    assert!(without[1..4] == [7, 4, 5] && with[1..4] == [7, 4, 6]);
+    assert!(without[4..].iter().chain(&with[4..]).all(|&reserved| reserved == 0));
     let header = vec![
-        row![0, word(0), format!("{}, the version", header[0])],
+        row![0, word(0), format!("{}, the version; {} where there are metres", without[0], with[0])],
         row![1, word(1), "n"],
         row![2, word(2), "m"],
         row![3, word(3), WORDS],
@@ -1044,22 +1078,59 @@ fn tables_of_images(both: &mut Both) -> Tables {
         (Shape::Path, MOST_NODES),
     ];
     let sizes = trees.map(|(shape, n)| {
-        let (sealed, image) = both.image(&parents_of_shape(shape, n));
+        let (sealed, image) = both.image(&parents_of_shape(shape, n), None);
         let m = sealed.second as usize;
-        let Layout { r1, r0, r1_samples, samples, .. } = Layout::of(n, m);
+        let Layout { r1, r0, r1_samples, samples, .. } = Layout::of(n, m, false);
         let blocks = image.len() / BLOCK_BYTES;
         assert_eq!(word_at(&image, 12), Ok(blocks as u32));
-        let name = format!("{shape:?}").to_lowercase();
         let parts = [r1.len(), r0.len(), samples, r1_samples.len()].map(grouped);
+        let name = name_of(shape);
         [vec![name, grouped(n), grouped(m)], parts.to_vec(), vec![grouped(blocks), grouped(image.len())]].concat()
     });
     let heading =
         "| tree | n | m | blocks of R1 | blocks of R0 | samples of each | blocks for them, each | blocks | bytes |";
+    let measured = [
+        (Shape::Path, 1),
+        (Shape::Star, 126),
+        (Shape::Star, 127),
+        (Shape::Star, 4_000),
+        (Shape::Star, 10_962),
+        (Shape::Star, 10_963),
+        (Shape::Star, MOST_NODES),
+        (Shape::Path, MOST_NODES),
+    ];
+    let measured = measured.map(|(shape, n)| {
+        let parents = parents_of_shape(shape, n);
+        let before = both.image(&parents, None).1.len() / BLOCK_BYTES;
+        let image = both.image(&parents, Some(&vec![1; n])).1;
+        let blocks = image.len() / BLOCK_BYTES;
+        assert_eq!(word_at(&image, 12), Ok(blocks as u32));
+        let numbers = [n, before, blocks - before, blocks, image.len()].map(grouped);
+        [vec![name_of(shape)], numbers.to_vec()].concat()
+    });
     vec![
         ("| bytes of a block | what |", block),
         ("| word of the header | its bytes | value |", header),
         (heading, sizes.to_vec()),
+        ("| tree | n | blocks without metres | blocks of metres | blocks | bytes |", measured.to_vec()),
     ]
+}
+
+/// A shape as the document calls it.
+fn name_of(shape: Shape) -> String {
+    format!("{shape:?}").to_lowercase()
+}
+
+/// A row for each word of an image, the sums among them, that is not zero and is in one of these blocks.
+fn rows_of_words(image: &[u8], blocks: &[usize]) -> Vec<Vec<String>> {
+    let words_of_block = BLOCK_BYTES / 4;
+    let words = image.chunks(4).enumerate().map(|(index, word)| (index / words_of_block, index % words_of_block, word));
+    let words = words.filter(|(block, _, word)| blocks.contains(block) && **word != [0; 4]);
+    let rows = words.map(|(block, in_block, word)| {
+        let value = word_at(word, 0).expect("four bytes");
+        row![format!("{:08X}", BLOCK_BYTES * block + 4 * in_block), block, in_block, byte_text(word), value, WORDS]
+    });
+    rows.collect()
 }
 
 fn tables_of_t(both: &mut Both, t: &Example) -> Tables {
@@ -1074,12 +1145,9 @@ fn tables_of_t(both: &mut Both, t: &Example) -> Tables {
     }
     assert_eq!(end, t.string.len());
 
-    let words = t.image.chunks(4).enumerate().filter(|(_, word)| **word != [0; 4]).map(|(index, word)| {
-        let value = word_at(word, 0).expect("four bytes");
-        let words_of_block = BLOCK_BYTES / 4;
-        let (block, in_block) = (index / words_of_block, index % words_of_block);
-        row![format!("{:08X}", 4 * index), block, in_block, byte_text(word), value, WORDS]
-    });
+    let words = rows_of_words(&t.image, &[0, 1, 2, 3, 4]);
+    let words_with_metres = rows_of_words(&t.with_metres, &[0, 5]);
+    assert_eq!(t.with_metres[BLOCK_BYTES..5 * BLOCK_BYTES], t.image[BLOCK_BYTES..], "the blocks between them");
     let steps = [0, 1, 2, 3, 4, 5, PAYLOAD_WORDS].map(|words| {
         let (s, t) = sums_of_block(0, &t.image[..4 * words]);
         row![words, s, t]
@@ -1099,8 +1167,10 @@ fn tables_of_t(both: &mut Both, t: &Example) -> Tables {
         [10, 2, 2],
         [10, 2, 3],
         [10, 2, -1],
+        [11, 1, 0],
+        [11, 7, 0],
     ];
-    let answers = both.ask(&t.image, &questions);
+    let answers = both.ask(&t.with_metres, &questions);
     let asked =
         questions.iter().zip(answers).map(|([kind, node, argument], answer)| row![kind, node, argument, answer]);
 
@@ -1120,7 +1190,8 @@ fn tables_of_t(both: &mut Both, t: &Example) -> Tables {
     });
     vec![
         ("| node | parent | children | its part of the tree string | its bit of R1 | its bit of R0 |", nodes),
-        ("| offset | block | word | bytes | as a number | what |", words.collect()),
+        ("| offset | block | word | bytes | as a number | what |", words),
+        ("| offset | block | word | bytes | as a number | with metres |", words_with_metres),
         ("| words added | s | t |", steps.to_vec()),
         ("| kind | node | argument | answer |", asked.collect()),
         ("| asked of T | number | by the paper's letter | by this page | in the tree string |", corners.to_vec()),
@@ -1176,10 +1247,11 @@ fn names_of(header: &str, enumeration: &str) -> Vec<String> {
 }
 
 fn tables_of_numbers(both: &mut Both, header: &str) -> Tables {
-    let image_bytes = |shape, n| image_of_shape(shape, n).len();
-    let (least_bytes, most_bytes) = (image_bytes(Shape::Path, 1), image_bytes(Shape::Path, MOST_NODES));
     let (one_node, most_nodes) = (Example::of(&[0]), Example::of(&parents_of_shape(Shape::Path, MOST_NODES)));
     assert!(one_node.string.len() == 3 && most_nodes.string.len() == MOST_BITS);
+    let (least_bytes, most_bytes) = (one_node.image.len(), most_nodes.image.len());
+    let (least_with_metres, most_with_metres) = (one_node.with_metres.len(), most_nodes.with_metres.len());
+    assert_eq!(most_with_metres, BLOCK_BYTES * MOST_BLOCKS);
     let limits = [
         ("nodes of a tree, n", 1, MOST_NODES, "PLQ_MOST_NODES"),
         ("m", one_node.m, most_nodes.m, ""),
@@ -1189,8 +1261,11 @@ fn tables_of_numbers(both: &mut Both, header: &str) -> Tables {
         ("trees of a pack that one more is joined to", 0, MOST_TREES - 1, ""),
         ("bits of a pack", 0, MOST_BITS, "PLQ_MOST_BITS"),
         ("bytes of a block", BLOCK_BYTES, BLOCK_BYTES, "PLQ_BLOCK_BYTES"),
-        ("blocks of an image", least_bytes / BLOCK_BYTES, most_bytes / BLOCK_BYTES, ""),
-        ("bytes of an image", least_bytes, most_bytes, "PLQ_MOST_IMAGE_BYTES"),
+        ("blocks of an image without metres", least_bytes / BLOCK_BYTES, most_bytes / BLOCK_BYTES, ""),
+        ("bytes of an image without metres", least_bytes, most_bytes, "PLQ_MOST_TREE_IMAGE_BYTES"),
+        ("blocks of an image with metres", least_with_metres / BLOCK_BYTES, MOST_BLOCKS, ""),
+        ("bytes of an image with metres", least_with_metres, most_with_metres, "PLQ_MOST_IMAGE_BYTES"),
+        ("metres of a node", u32::MIN as usize, u32::MAX as usize, ""),
         ("questions in one call", 0, MOST_QUESTIONS, "PLQ_MOST_QUESTIONS"),
         ("depth of a node in a listing, from the node that is listed", 0, both.greatest_depth(), ""),
     ];
@@ -1219,8 +1294,11 @@ fn tables_of_numbers(both: &mut Both, header: &str) -> Tables {
 
 /// Each call made to T, so that its counts show what they count.
 fn rows_of_calls(both: &mut Both, header: &str) -> Vec<Vec<String>> {
-    let (image, string) = (image_of_shape(Shape::Path, 1), both.string(&T).1);
-    let (image_of_t, parents) = (both.image(&T).1, T.to_vec());
+    let (string, parents) = (both.string(&T).1, T.to_vec());
+    let [image_of_t, with_metres] = [None, Some(METRES_OF_T.as_slice())].map(|metres| both.image(&T, metres).1);
+    let (bytes, bytes_with_metres) = (vec![0; image_of_t.len()], vec![0; with_metres.len()]);
+    let measured =
+        Call::ImageWithMetres { parents: T.to_vec(), metres: METRES_OF_T.to_vec(), image: bytes_with_metres };
     let pack = bits_of_text("101110110010000100");
     let room = || vec![0; 100];
     let listing = Call::List { image: image_of_t.clone(), node: 2, pairs: room() };
@@ -1230,8 +1308,10 @@ fn rows_of_calls(both: &mut Both, header: &str) -> Vec<Vec<String>> {
     let calls = [
         (Call::StringOfParents { parents: parents.clone(), bytes: vec![0; 2] }, ("L", 15), ("1", 1)),
         (Call::ParentsOfString { bytes: string, bits: 15, parents: room() }, ("n", 7), ("0", 0)),
-        (Call::ImageOfParents { parents, image: vec![0; image.len()] }, ("n", 7), ("m", 4)),
+        (Call::ImageOfParents { parents, image: bytes }, ("n", 7), ("m", 4)),
+        (measured, ("n", 7), ("m", 4)),
         (Call::ParentsOfImage { image: image_of_t.clone(), parents: room() }, ("n", 7), ("0", 0)),
+        (Call::MetresOfImage { image: with_metres, metres: room() }, ("n", 7), ("0", 0)),
         (Call::CheckImage { image: image_of_t }, ("n", 7), ("m", 4)),
         (ask, ("questions", 2), ("0", 0)),
         (split, ("L", 18), ("k", 2)),
@@ -1273,13 +1353,14 @@ fn counts_in_header<'h>(header: &'h str, name: &str) -> Vec<&'h str> {
 fn tables_of_damage(both: &mut Both) -> Tables {
     let at = |block: usize, word: usize| BLOCK_BYTES * block + 4 * word;
     let (s, t) = (PAYLOAD_WORDS, PAYLOAD_WORDS + 1);
-    let image = both.image(&T).1;
+    let [image, with_metres] = [None, Some(METRES_OF_T.as_slice())].map(|metres| both.image(&T, metres).1);
     let edits = [
         (at(0, 0), 0x00, false),
         (at(0, s), 0x10, false),
         (at(1, 64), 0x80, false),
         (at(4, t), 0x77, false),
         (at(0, 0), 0x00, true),
+        (at(0, 0), 0x02, true),
         (at(0, 1), 0x08, true),
         (at(0, 2), 0x01, true),
         (at(0, 2), 0x03, true),
@@ -1293,8 +1374,16 @@ fn tables_of_damage(both: &mut Both) -> Tables {
         (at(3, 1), 0x01, true),
         (at(1, 1), 0xA6, true),
     ];
-    let edits = edits.map(|(offset, byte, made_right)| {
-        let mut edited = image.clone();
+    let edits_with_metres = [
+        (at(0, 0), 0x01, true),
+        (at(0, 0), 0x03, true),
+        (at(0, 3), 0x05, true),
+        (at(5, 0), 0x0B, false),
+        (at(5, 7), 0x01, true),
+        (at(5, 0), 0x0B, true),
+    ];
+    let mut edited = |image: &[u8], (offset, byte, made_right): (usize, u8, bool)| {
+        let mut edited = image.to_vec();
         edited[offset] = byte;
         if made_right {
             seal(&mut edited);
@@ -1303,7 +1392,9 @@ fn tables_of_damage(both: &mut Both) -> Tables {
         let (was, is) = (byte_text(&image[offset..=offset]), byte_text(&[byte]));
         let sums = if made_right { "made right" } else { "as they were" };
         row![format!("{offset:08X}"), was, is, sums, answer.code, answer.place, WORDS]
-    });
+    };
+    let edits = edits.map(|edit| edited(&image, edit));
+    let edits_with_metres = edits_with_metres.map(|edit| edited(&with_metres, edit));
 
     let blocks: Vec<&[u8]> = image.chunks(BLOCK_BYTES).collect();
     let mut longer = [&image[..], &[0; BLOCK_BYTES]].concat();
@@ -1329,6 +1420,12 @@ fn tables_of_damage(both: &mut Both) -> Tables {
         ("T's image twice", image.repeat(2)),
         ("T's image and a block of zeros with right sums", longer),
         ("T's image with zeros in the place of its header", no_header),
+        ("T's image with metres, without its last block", with_metres[..image.len()].to_vec()),
+        (
+            "T's image with metres and the header of T's image without",
+            [blocks[0], &with_metres[BLOCK_BYTES..]].concat(),
+        ),
+        ("zeros, as many as the largest image has bytes", vec![0; BLOCK_BYTES * MOST_BLOCKS]),
         ("zeros, a block more than the largest image", vec![0; BLOCK_BYTES * (MOST_BLOCKS + 1)]),
     ];
     let files = files.map(|(name, file)| {
@@ -1339,6 +1436,7 @@ fn tables_of_damage(both: &mut Both) -> Tables {
     vec![
         ("| field | where it is | code | place |", rows_of_fields(both)),
         ("| offset | byte | changed to | sums | code | place | what it is |", edits.to_vec()),
+        ("| offset | byte | changed to | sums | code | place | what it is with metres |", edits_with_metres.to_vec()),
         ("| file | bytes | code | place |", files.to_vec()),
     ]
 }
@@ -1347,18 +1445,21 @@ fn tables_of_damage(both: &mut Both) -> Tables {
 fn rows_of_fields(both: &mut Both) -> Vec<Vec<String>> {
     let mut fields: BTreeMap<usize, Vec<(usize, Answer)>> = BTreeMap::new();
     for example in [Example::of(&T), Example::of(&parents_of_shape(Shape::Path, 8_065))] {
-        for (field, byte, bits) in changes_of_fields(&example) {
-            let block = byte / BLOCK_BYTES;
-            let mut image = example.image.clone();
-            image[byte] ^= bits;
-            let damaged = both.check_image(image.clone());
-            assert_eq!((damaged.code, damaged.place as usize), (6, block), "with the sums as they were");
-            seal(&mut image);
-            fields.entry(field).or_default().push((block, both.check_image(image)));
+        for (image, measured) in [(&example.image, false), (&example.with_metres, true)] {
+            for (field, byte, bits) in changes_of_fields(&example, measured) {
+                let block = byte / BLOCK_BYTES;
+                let mut image = image.clone();
+                image[byte] ^= bits;
+                let damaged = both.check_image(image.clone());
+                assert_eq!((damaged.code, damaged.place as usize), (6, block), "with the sums as they were");
+                seal(&mut image);
+                fields.entry(field).or_default().push((block, both.check_image(image)));
+            }
         }
     }
     let reserved = format!("words 4 to {} of the header", PAYLOAD_WORDS - 1);
     let where_they_are = [
+        "word 0 of the header",
         "word 0 of the header",
         "words 1 and 2 of the header",
         "words 1 and 2 of the header",
@@ -1366,6 +1467,7 @@ fn rows_of_fields(both: &mut Both) -> Vec<Vec<String>> {
         &reserved,
         WORDS,
         "word 0 of a block of R1 or R0",
+        WORDS,
         WORDS,
         WORDS,
         WORDS,
@@ -1386,37 +1488,40 @@ fn rows_of_fields(both: &mut Both) -> Vec<Vec<String>> {
 
 /// Changes of single bytes of a tree's image: the number of the field, from 0 in the order of the table, the byte, and
 /// its bits that change.
-fn changes_of_fields(example: &Example) -> Vec<(usize, usize, u8)> {
-    let Layout { r1, r0, r1_samples, r0_samples, n, samples } = Layout::of(example.n(), example.m());
+fn changes_of_fields(example: &Example, measured: bool) -> Vec<(usize, usize, u8)> {
+    let layout = Layout::of(example.n(), example.m(), measured);
+    let Layout { r1, r0, metres, n, .. } = &layout;
     let at = |block: usize, word: usize| BLOCK_BYTES * (block + word / PAYLOAD_WORDS) + 4 * (word % PAYLOAD_WORDS);
     let bit = |field: usize, first_block: usize, index: usize| {
         let (byte, mask) = place_of_bit(first_block, index);
         (field, byte, mask)
     };
     let mut changes = vec![
-        (0, at(0, 0), 1),
+        (0, at(0, 0), 1), // to 0 and 3
         (0, at(0, 0), 2),
-        (1, at(0, 1) + 2, 1), // 65,536 nodes more
-        (1, at(0, 2) + 3, 1),
-        (2, at(0, 1), 8), // 8 nodes more in both trees, and as many blocks as before
-        (3, at(0, 3), 1),
-        (4, at(0, 4), 1),
-        (4, at(0, 64), 1),
-        (4, at(0, PAYLOAD_WORDS - 1) + 3, 0x80),
+        (1, at(0, 0), (WITHOUT_METRES ^ WITH_METRES) as u8),
+        (2, at(0, 1) + 2, 1), // 65,536 nodes more
+        (2, at(0, 2) + 3, 1),
+        (3, at(0, 1), 8), // 8 nodes more in both trees, and as many blocks as before
+        (4, at(0, 3), 1),
+        (5, at(0, 4), 1),
+        (5, at(0, 64), 1),
+        (5, at(0, PAYLOAD_WORDS - 1) + 3, 0x80),
     ];
     if example.m() + 1 < example.n() {
-        changes.push((2, at(0, 2), 1));
+        changes.push((3, at(0, 2), 1));
     }
-    for (first, blocks, bits) in [(r1.start, r1.len(), n), (r0.start, r0.len(), n + 1)] {
-        changes.extend([0, bits / 2, bits - 1].map(|index| bit(5, first, index)));
-        changes.extend((first..first + blocks).map(|block| (6, at(block, 0), 1)));
-        changes.extend([bits, blocks * BITS_IN_BLOCK - 1].map(|index| bit(7, first, index)));
+    for (first, blocks, bits) in [(r1.start, r1.len(), *n), (r0.start, r0.len(), n + 1)] {
+        changes.extend([0, bits / 2, bits - 1].map(|index| bit(6, first, index)));
+        changes.extend((first..first + blocks).map(|block| (7, at(block, 0), 1)));
+        changes.extend([bits, blocks * BITS_IN_BLOCK - 1].map(|index| bit(8, first, index)));
     }
-    for blocks in [r1_samples, r0_samples] {
+    for (blocks, words) in layout.lists().into_iter().filter(|(blocks, _)| !blocks.is_empty()) {
         let (first, all) = (blocks.start, blocks.len() * PAYLOAD_WORDS);
-        changes.extend(blocks.map(|block| (8, at(block, 0), 1)));
-        changes.push((8, at(first, samples - 1), 2));
-        changes.extend([samples, all - 1].map(|word| (9, at(first, word), 1)));
+        let element = if blocks == metres { 11 } else { 9 };
+        changes.extend(blocks.clone().map(|block| (element, at(block, 0), 1)));
+        changes.push((element, at(first, words - 1), 2));
+        changes.extend([words, all - 1].map(|word| (10, at(first, word), 1)));
     }
     changes
 }
@@ -1433,9 +1538,10 @@ fn sentences(both: &mut Both, header: &str, t: &Example) -> Vec<(&'static str, V
     };
     let (least_bytes, most_bytes) = (Example::of(&[0]).image.len(), constant(header, "PLQ_MOST_IMAGE_BYTES"));
     let least_blocks = least_bytes / BLOCK_BYTES;
+    let most_of_tree = constant(header, "PLQ_MOST_TREE_IMAGE_BYTES");
     let last_word = PAYLOAD_WORDS - 1;
     let too_deep = both.greatest_depth() + 1;
-    let version = t.image[0].into();
+    let [version, with_metres] = [&t.image, &t.with_metres].map(|image| image[0].into());
     let with_children = t.tree.nodes().filter(|&node| !t.tree.children(node).is_empty()).count();
     let over_at = parts_of_bits(&bits_of_text("100")).map_or(0, |parts| 2 * parts[0].tree.node_count() + 1);
     let value_of_bit = |bit: usize| bytes_of_bits(&bits_of_text(&format!("{}1", "0".repeat(bit - 1))))[(bit - 1) / 8];
@@ -1471,13 +1577,16 @@ fn sentences(both: &mut Both, header: &str, t: &Example) -> Vec<(&'static str, V
         ("one word each, {} to a block", &[PAYLOAD_WORDS]),
         ("A sample is a position in the whole string, from {}, not in a block.", &[1]),
         ("The smallest image has {} blocks.", &[least_blocks]),
+        ("The number of blocks is all of word {}: its", &[3]),
         ("The largest has {} blocks, which are {} bytes.", &[MOST_BLOCKS, most_bytes]),
+        ("Without metres the largest has {} blocks, which are {} bytes.", &[most_of_tree / BLOCK_BYTES, most_of_tree]),
         ("In T {} nodes have children, so m is {}.", &[with_children, t.m]),
         ("The sums of block {}, after some of its words:", &[0]),
         ("and it is {} for k = {}.", &[0, 0]),
         ("up to `ones_before_zero(x + {})`.", &[1]),
         ("An answer {} for a node means", &[0]),
-        ("for kinds {} and {} it is a number", &[code("PLQ_DEGREE"), code("PLQ_LEAF")]),
+        ("for kinds {}, {} and {} it is a", &[code("PLQ_DEGREE"), code("PLQ_LEAF"), code("PLQ_METRES")]),
+        ("Kind {} is not allowed where the image has no metres.", &[code("PLQ_METRES")]),
         ("The rank of the root is {}, its place", &[both.ask(&t.image, &[[7, 1, 0]])[0] as usize]),
         ("Kinds {} and {} take", &[code("PLQ_CHILD_NUMBER"), code("PLQ_SIBLING_AT")]),
         ("take every argument, the others only {}.", &[0]),
@@ -1501,19 +1610,21 @@ fn sentences(both: &mut Both, header: &str, t: &Example) -> Vec<(&'static str, V
         ("or not of {} to {}; questions", &[least_blocks, MOST_BLOCKS]),
         ("questions not in threes, or over {} |", &[MOST_QUESTIONS]),
         ("| the lowest such block, from {} |", &[0]),
-        ("| the version is not {} |", &[version]),
+        ("| the version is neither {} nor {} |", &[version, with_metres]),
         ("begin no string of a tree of {} to {} nodes (pack", &[1, MOST_NODES]),
         ("L + {} if there is no such p", &[1]),
         ("| the lowest offending entry, from {} |", &[1]),
-        ("a listing of a node not from {} to n | the lowest such question, from {}; for a listing {} |", &[1, 1, 1]),
+        ("a listing of a node not from {} to n | the lowest such question, from {};", &[1, 1]),
+        ("for a listing, and for metres read back, {} |", &[1]),
         ("at depth {}", &[too_deep]),
         ("Code {} is retired: no call answers it", &[retired]),
         ("for what codes {} to {} tell apart", &[other_version, samples]),
         ("whole blocks of {} bytes, and of {} to {} of them;", &[BLOCK_BYTES, least_blocks, MOST_BLOCKS]),
         ("of them; else code {}.", &[size]),
         ("in the file; else code {}, with", &[sums]),
-        ("The version, in word {} of the header, is {}; else code {}, with place {}.", &[0, version, other_version, 0]),
-        ("of this length; else code {}, with place {}.", &[wrong_header, 0]),
+        ("The version, in word {} of the header, is {} or {}; else", &[0, version, with_metres]),
+        ("is {} or {}; else code {}, with place {}.", &[version, with_metres, other_version, 0]),
+        ("of this version and length; else code {}, with place {}.", &[wrong_header, 0]),
         ("with this n and m; else code {}, with place {} in", &[strings, 1]),
         ("unused payload is zero; else code {}, with", &[counts]),
         ("the samples are right; else code {}, with", &[samples]),
@@ -1531,6 +1642,9 @@ fn sentences(both: &mut Both, header: &str, t: &Example) -> Vec<(&'static str, V
         ("Then the code is {} or {} if a count or a sample", &[counts, samples]),
         ("first, {} to a block, after one word", &[BITS_IN_BLOCK]),
         ("as positions from {} in the whole string", &[1]),
+        ("Where n is at most {}, a line for each node follows:", &[MOST_NODES_LISTED]),
+        ("of up to {} blocks, which are {} bytes, and", &[MOST_BLOCKS_READ, BLOCK_BYTES * MOST_BLOCKS_READ]),
+        ("refuses longer ones with code {} and place {}, also", &[size, 0]),
         ("- Code {}: the length of the file.", &[size]),
         ("a multiple of {}, or below {}, or above {}:", &[BLOCK_BYTES, least_bytes, most_bytes]),
         ("- Code {}: the block in the place, from offset `word_at(place, {})`", &[sums, 0]),
@@ -1556,18 +1670,24 @@ fn sentences(both: &mut Both, header: &str, t: &Example) -> Vec<(&'static str, V
         .iter()
         .map(|(sentence, values)| (*sentence, values.iter().map(usize::to_string).collect::<Vec<String>>()));
     let words = |text: String| text.split(' ').map(str::to_string).collect::<Vec<String>>();
-    let pairs = t
-        .image
-        .chunks(BLOCK_BYTES)
-        .flat_map(|block| [PAYLOAD_BYTES, PAYLOAD_BYTES + 4].map(|at| word_at(block, at).expect("a sum").to_string()));
+    let [pairs, pairs_with_metres] = [&t.image, &t.with_metres].map(|image| {
+        let sums_of =
+            |block| [PAYLOAD_BYTES, PAYLOAD_BYTES + 4].map(|at| word_at(block, at).expect("a sum").to_string());
+        image.chunks(BLOCK_BYTES).flat_map(sums_of)
+    });
     let of_t = [
         ("T has the parent list {} {} {} {} {} {} {}.", words(list_text(&T))),
+        ("The metres of T's nodes are {} {} {} {} {} {} {}.", words(list_text(&METRES_OF_T))),
         ("The tree string is {}, in", vec![bit_text(&t.string)]),
         ("in the bytes {} {}.", words(byte_text(&both.string(&T).1))),
         ("R1 is {}, and R0 is {}, which", vec![bit_text(&t.r1), bit_text(&t.r0)]),
         (
             "of the blocks from {} on: ({}, {}), ({}, {}), ({}, {}), ({}, {}), ({}, {}).",
             iter::once("0".to_string()).chain(pairs).collect(),
+        ),
+        (
+            "With metres, the pairs (s, t) of all blocks: ({}, {}), ({}, {}), ({}, {}), ({}, {}), ({}, {}), ({}, {}).",
+            pairs_with_metres.collect(),
         ),
     ];
     in_decimal.chain(of_t).collect()

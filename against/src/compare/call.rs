@@ -10,7 +10,9 @@ pub enum Call {
     StringOfParents { parents: Vec<u32>, bytes: Vec<u8> },
     ParentsOfString { bytes: Vec<u8>, bits: usize, parents: Vec<u32> },
     ImageOfParents { parents: Vec<u32>, image: Vec<u8> },
+    ImageWithMetres { parents: Vec<u32>, metres: Vec<u32>, image: Vec<u8> },
     ParentsOfImage { image: Vec<u8>, parents: Vec<u32> },
+    MetresOfImage { image: Vec<u8>, metres: Vec<u32> },
     CheckImage { image: Vec<u8> },
     Ask { image: Vec<u8>, questions: Vec<i32>, answers: Vec<u32> },
     Split { bytes: Vec<u8>, bits: usize, trees: usize, starts: Vec<u32>, sizes: Vec<u32> },
@@ -33,7 +35,9 @@ impl Call {
             Call::StringOfParents { parents, bytes } => calls::string_of_parents(parents, bytes),
             Call::ParentsOfString { bytes, bits, parents } => calls::parents_of_string(bytes, *bits, parents),
             Call::ImageOfParents { parents, image } => calls::image_of_parents(parents, image),
+            Call::ImageWithMetres { parents, metres, image } => calls::image_with_metres(parents, metres, image),
             Call::ParentsOfImage { image, parents } => calls::parents_of_image(image, parents),
+            Call::MetresOfImage { image, metres } => calls::metres_of_image(image, metres),
             Call::CheckImage { image } => calls::check_image(image),
             Call::Ask { image, questions, answers } => calls::ask(image, questions, answers),
             Call::Split { bytes, bits, trees, starts, sizes } => calls::split(bytes, *bits, *trees, starts, sizes),
@@ -48,7 +52,9 @@ impl Call {
             Call::StringOfParents { .. } => "plq_string_of_parents",
             Call::ParentsOfString { .. } => "plq_parents_of_string",
             Call::ImageOfParents { .. } => "plq_image_of_parents",
+            Call::ImageWithMetres { .. } => "plq_image_with_metres",
             Call::ParentsOfImage { .. } => "plq_parents_of_image",
+            Call::MetresOfImage { .. } => "plq_metres_of_image",
             Call::CheckImage { .. } => "plq_check_image",
             Call::Ask { .. } => "plq_ask",
             Call::Split { .. } => "plq_split",
@@ -70,8 +76,14 @@ impl Call {
             Call::ImageOfParents { parents, image } => {
                 vec![("parents", Words(parents)), ("image", Bytes(image))]
             }
+            Call::ImageWithMetres { parents, metres, image } => {
+                vec![("parents", Words(parents)), ("metres", Words(metres)), ("image", Bytes(image))]
+            }
             Call::ParentsOfImage { image, parents } => {
                 vec![("image", Bytes(image)), ("parents", Words(parents))]
+            }
+            Call::MetresOfImage { image, metres } => {
+                vec![("image", Bytes(image)), ("metres", Words(metres))]
             }
             Call::CheckImage { image } => vec![("image", Bytes(image))],
             Call::Ask { image, questions, answers } => {

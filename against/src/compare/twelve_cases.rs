@@ -1,4 +1,5 @@
 //! "Twelve checked by hand", written down by hand once more: each call with the answer and the lists that come back.
+//! Then the same for their tree T with metres.
 
 use super::call::Call;
 use crate::model::answers::Answer;
@@ -6,9 +7,12 @@ use crate::model::answers::Answer;
 /// "T has parents 0 1 1 1 2 2 4."
 pub const T: [u32; 7] = [0, 1, 1, 1, 2, 2, 4];
 
+/// Metres for T.
+pub const METRES_OF_T: [u32; 7] = [10, 20, 30, 40, 50, 60, 70];
+
 /// A call and what comes back.
 pub struct Case {
-    /// Its number in document 01.
+    /// The number in document 01 of the case that it is, or that is like it but for the metres.
     pub number: usize,
     pub call: Call,
     pub answer: Answer,
@@ -32,13 +36,14 @@ fn packed(bits: &str) -> Vec<u8> {
     bytes
 }
 
-/// An image of five blocks from its few words and bytes that are not zero. `sums` are (s, t) of each block.
-fn small_image(n: u32, m: u32, r1: &str, r0: &str, sums: [(u32, u32); 5]) -> Vec<u8> {
-    let mut image = vec![0; 5 * 512];
+/// T's image from its few words and bytes that are not zero. `sums` are (s, t) of each block.
+fn image_by_hand(version: u32, metres: &[u32], sums: &[(u32, u32)]) -> Vec<u8> {
+    let (n, m, r1, r0) = (7, 4, "1001011", "11010001");
+    let mut image = vec![0; 512 * sums.len()];
     let mut put = |block: usize, at: usize, bytes: &[u8]| {
         image[512 * block + at..][..bytes.len()].copy_from_slice(bytes);
     };
-    for (word, value) in [1, n, m, 5].into_iter().enumerate() {
+    for (word, value) in [version, n, m, sums.len() as u32].into_iter().enumerate() {
         put(0, 4 * word, &value.to_le_bytes());
     }
     put(1, 4, &packed(r1));
@@ -47,17 +52,28 @@ fn small_image(n: u32, m: u32, r1: &str, r0: &str, sums: [(u32, u32); 5]) -> Vec
     let first_one = |string: &str| 1 + string.find('1').expect("has a one") as u32;
     put(3, 0, &first_one(r1).to_le_bytes());
     put(4, 0, &first_one(r0).to_le_bytes());
-    for (block, (s, t)) in sums.into_iter().enumerate() {
+    for (word, value) in metres.iter().enumerate() {
+        put(5, 4 * word, &value.to_le_bytes());
+    }
+    for (block, (s, t)) in sums.iter().enumerate() {
         put(block, 504, &s.to_le_bytes());
         put(block, 508, &t.to_le_bytes());
     }
     image
 }
 
+/// The sums of blocks 1 to 4 of T's image, by case 2.
+const SUMS_AFTER_HEADER: [(u32, u32); 4] = [(151, 18876), (211, 26377), (4, 504), (5, 630)];
+
 /// Case 2: T's image with the sums given there.
 pub fn image_of_t() -> Vec<u8> {
-    let sums = [(17, 2112), (151, 18876), (211, 26377), (4, 504), (5, 630)];
-    small_image(7, 4, "1001011", "11010001", sums)
+    image_by_hand(1, &[], &[&[(17, 2112)], SUMS_AFTER_HEADER.as_slice()].concat())
+}
+
+/// The same with metres. In the header s ends at 2 + 7 + 4 + 6 = 19; t adds 2, 9, 13, and 19 for each of 123 words. In
+/// block 5 s begins at 5 and ends at 285; t adds 15, 35, 65, 105, 155, 215, and 285 for each of 120 words.
+pub fn image_of_t_with_metres() -> Vec<u8> {
+    image_by_hand(2, &METRES_OF_T, &[&[(19, 2361)], SUMS_AFTER_HEADER.as_slice(), &[(285, 34790)]].concat())
 }
 
 fn string_made(number: usize, parents: &[u32], string: &str) -> [Case; 2] {
@@ -138,6 +154,39 @@ fn asked(number: usize, image: &[u8], questions: &[i32], answers: &[u32]) -> Cas
     Case { number, call: with(&vec![99; answers.len()]), answer: done(answers.len() as u32, 0), after: with(answers) }
 }
 
+/// T with metres: made, read back and asked for; refused where they are not there, or are not 7.
+pub fn with_metres() -> Vec<Case> {
+    let (image, without) = (image_of_t_with_metres(), image_of_t());
+    let sealing =
+        |metres: &[u32], image: Vec<u8>| Call::ImageWithMetres { parents: T.to_vec(), metres: metres.to_vec(), image };
+    let reading = |image: &[u8], metres: Vec<u32>| Call::MetresOfImage { image: image.to_vec(), metres };
+    let asking = |image: &[u8], questions: &[i32]| Call::Ask {
+        image: image.to_vec(),
+        questions: questions.to_vec(),
+        answers: vec![99; 3],
+    };
+    let (made, read) = (sealing(&METRES_OF_T, image.clone()), reading(&image, METRES_OF_T.to_vec()));
+    let (one_less, one_more) = (&METRES_OF_T[..6], [METRES_OF_T.as_slice(), &[80]].concat());
+    let to_make = |room: usize| sealing(&METRES_OF_T, vec![0xEE; room]);
+    let checked = Call::CheckImage { image: image.clone() };
+    vec![
+        Case { number: 2, call: to_make(3072), answer: done(7, 4), after: made },
+        Case { number: 2, call: reading(&image, vec![99; 7]), answer: done(7, 0), after: read },
+        Case { number: 2, call: checked.clone(), answer: done(7, 4), after: checked },
+        asked(10, &image, &[11, 1, 0, 1, 7, 0, 11, 7, 0], &[10, 4, 70]),
+        call_refused(2, sealing(one_less, vec![0xEE; 3072]), 2, 0),
+        call_refused(2, sealing(&one_more, vec![0xEE; 3072]), 2, 0),
+        call_refused(2, sealing(&[], vec![0xEE; 3072]), 2, 0),
+        call_refused(2, to_make(3071), 1, 0),
+        call_refused(2, reading(&image, vec![99; 6]), 1, 0),
+        call_refused(2, reading(&without, vec![99; 7]), 8, 1),
+        call_refused(2, reading(&without, Vec::new()), 8, 1),
+        call_refused(10, asking(&without, &[1, 7, 0, 11, 7, 0]), 8, 2),
+        call_refused(10, asking(&image, &[1, 7, 0, 11, 7, 0, 11, 7, 1]), 8, 3),
+        call_refused(10, asking(&image, &[12, 7, 0]), 8, 1),
+    ]
+}
+
 /// All cases, in order; what is left of case 1, R1 and R0 by themselves, is inside the image of case 2.
 pub fn table() -> Vec<Case> {
     let t_image = image_of_t();
@@ -183,7 +232,7 @@ mod tests {
 
     #[test]
     fn the_model_gives_every_case() {
-        for Case { number, mut call, answer, after } in table() {
+        for Case { number, mut call, answer, after } in table().into_iter().chain(with_metres()) {
             assert_eq!(call.by_model(), answer, "case {number}");
             assert_eq!(call, after, "case {number}");
         }
@@ -202,16 +251,23 @@ mod tests {
             let (found_r1, found_r0) = partition(&string_of_tree(&tree));
             assert_eq!((text(&found_r1).as_str(), text(&found_r0).as_str()), (r1, r0));
             // and they are in the image after the counts of blocks 1 and 2
-            let image = image_of_tree(&tree);
+            let image = image_of_tree(&tree, None);
             let string_in =
                 |block: usize, length: usize| text(&bits_of_bytes(&image[512 * block + 4..][..1])[..length]);
             assert_eq!((string_in(1, r1.len()).as_str(), string_in(2, r0.len()).as_str()), (r1, r0));
         }
     }
 
+    fn tree_of(shape: Shape, n: usize) -> Tree {
+        Tree::of_parent_list(&parent_list(shape, n, &mut Random::new(1))).expect("a tree")
+    }
+
     fn image_of(shape: Shape, n: usize) -> Vec<u8> {
-        let parents = parent_list(shape, n, &mut Random::new(1));
-        image_of_tree(&Tree::of_parent_list(&parents).expect("a tree"))
+        image_of_tree(&tree_of(shape, n), None)
+    }
+
+    fn image_with_zeros(shape: Shape, n: usize) -> Vec<u8> {
+        image_of_tree(&tree_of(shape, n), Some(&vec![0; n]))
     }
 
     #[test]
@@ -222,6 +278,12 @@ mod tests {
         // "One node takes 5 blocks; the largest image is 53 blocks, 27,136 bytes."
         assert_eq!(image_of(Shape::Path, 1).len(), 5 * 512);
         assert_eq!(image_of(Shape::Path, 65_535).len(), 27_136);
+        // "126 to a block"; "5 to 574 blocks"
+        assert_eq!(image_with_zeros(Shape::Path, 1).len(), 6 * 512);
+        assert_eq!(image_with_zeros(Shape::Path, 126).len(), 6 * 512);
+        assert_eq!(image_with_zeros(Shape::Path, 127).len(), 7 * 512);
+        assert_eq!(image_with_zeros(Shape::Path, 65_535).len(), 574 * 512);
+        assert_eq!(calls::check_image(&image_with_zeros(Shape::Path, 65_535)), Ok((65_535, 65_535)));
         // "n = 65,535 accepted, 65,536 not"
         assert_eq!(calls::check_image(&image_of(Shape::Path, 65_535)), Ok((65_535, 65_535)));
         assert_eq!(calls::check_image(&image_of(Shape::Star, 65_536)), Err(Refusal::WrongHeader));
@@ -245,6 +307,8 @@ mod tests {
     fn the_model_prints_the_outline_of_t() {
         let printed = "n 7 m 4 blocks 5\n1 0 3\n2 1 2\n5 2 0\n6 2 0\n3 1 0\n4 1 1\n7 2 0\n";
         assert_eq!(outline(&image_of_t()), printed);
+        let printed = "n 7 m 4 blocks 6\n1 0 3 10\n2 1 2 20\n5 2 0 50\n6 2 0 60\n3 1 0 30\n4 1 1 40\n7 2 0 70\n";
+        assert_eq!(outline(&image_of_t_with_metres()), printed);
         assert_eq!(outline(&[]), "refused 2 0\n");
     }
 }

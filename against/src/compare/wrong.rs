@@ -7,10 +7,11 @@ use crate::library::{Library, Returned};
 use crate::model::answers::{number, Answer};
 use crate::model::calls;
 use crate::model::images::{
-    candidate, image_of_tree, seal, wrong_words, WrongWords, BITS_IN_BLOCK, BLOCK_BYTES, PAYLOAD_BYTES, PAYLOAD_WORDS,
+    candidate, image_of_tree, metres_in, seal, wrong_words, Content, WrongWords, BITS_IN_BLOCK, BLOCK_BYTES,
+    MOST_BLOCKS, PAYLOAD_BYTES, PAYLOAD_WORDS, WITHOUT_METRES, WITH_METRES,
 };
 use crate::model::strings::MOST_BITS;
-use crate::model::trees::Tree;
+use crate::model::trees::{Tree, MOST_NODES};
 
 /// A function that does as the library, but for one thing.
 pub struct Wrong {
@@ -117,7 +118,7 @@ pub const WRONG: &[Wrong] = &[
         spoil: |_, after, answer| {
             if let (0, Call::ImageOfParents { parents, image }) = (answer.code, after) {
                 let tree = Tree::of_parent_list(parents).expect("accepted");
-                let length = image_of_tree(&tree).len();
+                let length = image_of_tree(&tree, None).len();
                 image[length..].iter_mut().take(1).for_each(|byte| *byte = 0);
             }
         },
@@ -132,12 +133,175 @@ pub const WRONG: &[Wrong] = &[
         },
     },
     Wrong {
+        name: "image-with-metres-takes-any-number",
+        what: "plq_image_with_metres takes lists of metres of any length, and zeros for those that are missing",
+        spoil: |before, after, answer| {
+            if let (2, Call::ImageWithMetres { parents, metres, image }) = (answer.code, before) {
+                let (mut as_many, mut image) = (metres.clone(), image.clone());
+                as_many.resize(parents.len(), 0);
+                *answer = Answer::of(calls::image_with_metres(parents, &as_many, &mut image));
+                *after = Call::ImageWithMetres { parents: parents.clone(), metres: metres.clone(), image };
+            }
+        },
+    },
+    Wrong {
+        name: "image-with-metres-takes-none-for-version-1",
+        what: "plq_image_with_metres makes an image of version 1 where the list of metres is empty",
+        spoil: |before, after, answer| {
+            if let (2, Call::ImageWithMetres { parents, metres, image }) = (answer.code, before) {
+                if metres.is_empty() {
+                    let mut image = image.clone();
+                    *answer = Answer::of(calls::image_of_parents(parents, &mut image));
+                    *after = Call::ImageWithMetres { parents: parents.clone(), metres: Vec::new(), image };
+                }
+            }
+        },
+    },
+    Wrong {
+        name: "image-with-metres-looks-at-parents-first",
+        what: "plq_image_with_metres refuses a bad parent list before another number of metres",
+        spoil: |_, after, answer| {
+            if let (2, Call::ImageWithMetres { parents, .. }) = (answer.code, after) {
+                if let (1..=MOST_NODES, Err(refusal)) = (parents.len(), Tree::of_parent_list(parents)) {
+                    *answer = Answer::of(Err(refusal));
+                }
+            }
+        },
+    },
+    Wrong {
+        name: "image-with-metres-says-version-1",
+        what: "plq_image_with_metres writes version 1 into the header",
+        spoil: |_, after, answer| {
+            seal_otherwise(after, answer, |image, _| *word_at(image, 0, 0) = WITHOUT_METRES.to_le_bytes());
+        },
+    },
+    Wrong {
+        name: "image-with-metres-does-not-count-them",
+        what: "plq_image_with_metres leaves the blocks of metres out of the number of blocks in the header",
+        spoil: |_, after, answer| {
+            seal_otherwise(after, answer, |image, layout| {
+                *word_at(image, 0, 3) = number(layout.metres.start).to_le_bytes();
+            });
+        },
+    },
+    Wrong {
+        name: "image-with-metres-writes-none",
+        what: "plq_image_with_metres writes zeros for the metres",
+        spoil: |_, after, answer| {
+            seal_otherwise(after, answer, |image, layout| image[layout.metres.start * BLOCK_BYTES..].fill(0));
+        },
+    },
+    Wrong {
+        name: "image-with-metres-writes-one-block",
+        what: "plq_image_with_metres writes the first block of metres, and zeros after it",
+        spoil: |_, after, answer| {
+            seal_otherwise(after, answer, |image, layout| image[(layout.metres.start + 1) * BLOCK_BYTES..].fill(0));
+        },
+    },
+    Wrong {
+        name: "image-with-metres-puts-127-to-a-block",
+        what: "plq_image_with_metres puts 127 metres to a block, and the sums over the last of them",
+        spoil: |_, after, answer| {
+            seal_otherwise(after, answer, |image, layout| {
+                let first = layout.metres.start;
+                let metres: Vec<[u8; 4]> = (0..layout.n).map(|node| *word_at(image, first, node)).collect();
+                image[first * BLOCK_BYTES..].fill(0);
+                for (block, metres) in (first..).zip(metres.chunks(PAYLOAD_WORDS + 1)) {
+                    image[block * BLOCK_BYTES..][..4 * metres.len()].copy_from_slice(metres.as_flattened());
+                }
+            });
+        },
+    },
+    Wrong {
         name: "parents-of-image-fills-short-room",
         what: "plq_parents_of_image writes what fits before it refuses for too little room",
         spoil: |_, after, answer| {
             if let (1, Call::ParentsOfImage { image, parents }) = (answer.code, after) {
                 let all = candidate(image).expect("accepted but for the room").parent_list();
                 parents.iter_mut().zip(all).for_each(|(entry, parent)| *entry = parent);
+            }
+        },
+    },
+    Wrong {
+        name: "metres-of-image-refuses-everything",
+        what: "plq_metres_of_image finds no metres, always",
+        spoil: |before, after, answer| {
+            if let (0, Call::MetresOfImage { .. }) = (answer.code, before) {
+                *after = before.clone();
+                *answer = refused(8, 1);
+            }
+        },
+    },
+    Wrong {
+        name: "metres-of-image-gives-zeros",
+        what: "plq_metres_of_image gives every node 0 metres",
+        spoil: |_, after, answer| read_otherwise(after, answer, |_, metres| metres.fill(0)),
+    },
+    Wrong {
+        name: "metres-of-image-gives-next-nodes",
+        what: "plq_metres_of_image gives each node the metres of the next one, and the last node those of the first",
+        spoil: |_, after, answer| read_otherwise(after, answer, |_, metres| metres.rotate_left(1)),
+    },
+    Wrong {
+        name: "metres-of-image-reads-one-block",
+        what: "plq_metres_of_image gives the metres of the first block, and zeros after them",
+        spoil: |_, after, answer| {
+            read_otherwise(after, answer, |_, metres| metres.iter_mut().skip(PAYLOAD_WORDS).for_each(|word| *word = 0));
+        },
+    },
+    Wrong {
+        name: "metres-of-image-gives-parents",
+        what: "plq_metres_of_image gives each node's parent",
+        spoil: |_, after, answer| {
+            read_otherwise(after, answer, |image, metres| {
+                metres.copy_from_slice(&candidate(image).expect("accepted").parent_list());
+            });
+        },
+    },
+    Wrong {
+        name: "metres-of-image-invents-count",
+        what: "plq_metres_of_image answers m for its second count",
+        spoil: |_, after, answer| {
+            if let (0, Call::MetresOfImage { image, .. }) = (answer.code, after) {
+                answer.second = header_word(image, 2);
+            }
+        },
+    },
+    Wrong {
+        name: "metres-of-image-gives-zeros-for-version-1",
+        what: "plq_metres_of_image gives every node of an image without metres 0 metres",
+        spoil: |_, after, answer| {
+            if let (8, Call::MetresOfImage { image, metres }) = (answer.code, after) {
+                let n = header_word(image, 1);
+                *answer = match metres.get_mut(..n as usize) {
+                    Some(metres) => {
+                        metres.fill(0);
+                        Answer { code: 0, place: 0, first: n, second: 0 }
+                    }
+                    None => refused(1, 0),
+                };
+            }
+        },
+    },
+    Wrong {
+        name: "metres-of-image-looks-at-room-first",
+        what: "plq_metres_of_image refuses for too little room before it refuses an image without metres",
+        spoil: |_, after, answer| {
+            if let (8, Call::MetresOfImage { image, metres }) = (answer.code, after) {
+                if metres.len() < header_word(image, 1) as usize {
+                    *answer = refused(1, 0);
+                }
+            }
+        },
+    },
+    Wrong {
+        name: "metres-of-image-fills-short-room",
+        what: "plq_metres_of_image writes what fits before it refuses for too little room",
+        spoil: |_, after, answer| {
+            if let (1, Call::MetresOfImage { image, metres }) = (answer.code, after) {
+                let all =
+                    content_by_length(image).and_then(|content| content.metres).expect("accepted but for the room");
+                metres.iter_mut().zip(all).for_each(|(entry, metres)| *entry = metres);
             }
         },
     },
@@ -170,17 +334,35 @@ pub const WRONG: &[Wrong] = &[
         what: "plq_check_image names the highest damaged block",
         spoil: |_, after, answer| {
             if let (6, Call::CheckImage { image }) = (answer.code, after) {
-                let mut right = image.clone();
-                seal(&mut right);
-                let blocks = right.chunks(BLOCK_BYTES).zip(image.chunks(BLOCK_BYTES));
-                let highest = (0..).zip(blocks).filter(|(_, (right, given))| right != given).last();
-                answer.place = highest.expect("one is damaged").0;
+                answer.place = *wrong_blocks(image).last().expect("one is damaged");
+            }
+        },
+    },
+    Wrong {
+        name: "check-keeps-to-53-blocks",
+        what: "plq_check_image takes no more blocks than an image of version 1 can have",
+        spoil: |_, after, answer| {
+            if let Call::CheckImage { image } = after {
+                if image.len() > 53 * BLOCK_BYTES {
+                    *answer = refused(2, 0);
+                }
+            }
+        },
+    },
+    Wrong {
+        name: "check-takes-575-blocks",
+        what: "plq_check_image finds no fault with 575 blocks before it looks at the header",
+        spoil: |_, after, answer| {
+            if let (2, Call::CheckImage { image }) = (answer.code, after) {
+                if image.len() == (MOST_BLOCKS + 1) * BLOCK_BYTES {
+                    *answer = wrong_blocks(image).first().map_or(refused(12, 0), |&block| refused(6, block));
+                }
             }
         },
     },
     Wrong {
         name: "check-ignores-version",
-        what: "plq_check_image does not look at word 0 of the header",
+        what: "plq_check_image takes the version that an image of this length would have for that in the header",
         spoil: |_, after, answer| {
             accept_where(after, answer, |image, right, _| *word_at(image, 0, 0) = *word_at(right, 0, 0));
         },
@@ -249,6 +431,52 @@ pub const WRONG: &[Wrong] = &[
         },
     },
     Wrong {
+        name: "check-ignores-words-after-metres",
+        what: "plq_check_image does not look at the words after the metres",
+        spoil: |_, after, answer| {
+            accept_where(after, answer, |image, _, layout| {
+                for word in layout.n..layout.metres.len() * PAYLOAD_WORDS {
+                    *word_at(image, layout.metres.start, word) = [0; 4];
+                }
+            });
+        },
+    },
+    Wrong {
+        name: "check-finds-fault-with-metres",
+        what: "plq_check_image refuses the greatest number of metres",
+        spoil: |_, after, answer| {
+            if let (0, Call::CheckImage { image }) = (answer.code, after) {
+                let metres = content_by_length(image).and_then(|content| content.metres).unwrap_or_default();
+                if metres.contains(&u32::MAX) {
+                    *answer = refused(14, number(image.len() / BLOCK_BYTES) - 1);
+                }
+            }
+        },
+    },
+    Wrong {
+        name: "check-does-not-count-metres",
+        what: "plq_check_image wants a number of blocks in the header that leaves the blocks of metres out",
+        spoil: |_, after, answer| {
+            if let (0, Call::CheckImage { image }) = (answer.code, after) {
+                if header_word(image, 0) == WITH_METRES {
+                    *answer = refused(12, 0);
+                }
+            }
+        },
+    },
+    Wrong {
+        name: "check-takes-other-length-for-version",
+        what: "plq_check_image answers a version that no image of this length has with the code of another version",
+        spoil: |_, after, answer| {
+            if let (12, Call::CheckImage { image }) = (answer.code, after) {
+                let other = if header_word(image, 0) == WITH_METRES { WITHOUT_METRES } else { WITH_METRES };
+                if with_header_word(image, 0, other).code != 12 {
+                    *answer = refused(11, 0);
+                }
+            }
+        },
+    },
+    Wrong {
         name: "check-still-answers-7",
         what: "plq_check_image answers with the code that 11 to 15 took the place of",
         spoil: |_, after, answer| {
@@ -271,7 +499,7 @@ pub const WRONG: &[Wrong] = &[
         what: "plq_check_image looks at the version before the sums",
         spoil: |_, after, answer| {
             if let (6, Call::CheckImage { image }) = (answer.code, after) {
-                if header_word(image, 0) != 1 {
+                if ![WITHOUT_METRES, WITH_METRES].contains(&header_word(image, 0)) {
                     *answer = refused(11, 0);
                 }
             }
@@ -282,8 +510,10 @@ pub const WRONG: &[Wrong] = &[
         what: "plq_check_image looks at the version after all else in the image",
         spoil: |_, after, answer| {
             if let (11, Call::CheckImage { image }) = (answer.code, after) {
-                let all_else = with_header_word(image, 0, 1);
-                *answer = if all_else.code == 0 { *answer } else { all_else };
+                let all_else = [WITHOUT_METRES, WITH_METRES].map(|version| with_header_word(image, 0, version));
+                if all_else.iter().all(|answer| answer.code != 0) {
+                    *answer = all_else[0];
+                }
             }
         },
     },
@@ -472,6 +702,45 @@ pub const WRONG: &[Wrong] = &[
         },
     },
     Wrong {
+        name: "ask-gives-metres-of-parent",
+        what: "plq_ask answers kind 11 with the metres of the node's parent, and of the root with its own",
+        spoil: |_, after, answer| {
+            if let (0, Call::Ask { image, questions, answers }) = (answer.code, after) {
+                let Some(Content { tree, metres: Some(metres) }) = content_by_length(image) else { return };
+                for (question, answer) in questions.chunks(3).zip(answers).filter(|(question, _)| question[0] == 11) {
+                    *answer = metres[tree.parent(question[1] as usize).max(1) - 1];
+                }
+            }
+        },
+    },
+    Wrong {
+        name: "ask-ignores-argument-of-metres",
+        what: "plq_ask takes any argument for kind 11",
+        spoil: |before, after, answer| {
+            ask_otherwise(before, after, answer, |question| {
+                if question[0] == 11 {
+                    question[2] = 0;
+                }
+            });
+        },
+    },
+    Wrong {
+        name: "ask-gives-0-metres-for-version-1",
+        what: "plq_ask answers kind 11 with 0 where the image has no metres",
+        spoil: |before, after, answer| {
+            // the answer for child number 0 is 0 as well
+            if let Call::Ask { image, .. } = before {
+                if image.starts_with(&WITHOUT_METRES.to_le_bytes()) {
+                    ask_otherwise(before, after, answer, |question| {
+                        if let [11, _, 0] = question {
+                            question[0] = 8;
+                        }
+                    });
+                }
+            }
+        },
+    },
+    Wrong {
         name: "ask-takes-257",
         what: "plq_ask answers 257 questions",
         spoil: |before, after, answer| {
@@ -631,17 +900,46 @@ fn refused(code: u32, place: u32) -> Answer {
     Answer { code, place, first: 0, second: 0 }
 }
 
+/// The only tree that could give an image of this length and its metres, whatever version the header says.
+fn content_by_length(image: &[u8]) -> Option<Content> {
+    let tree = candidate(image)?;
+    let metres = metres_in(image, &tree);
+    let right = image_of_tree(&tree, metres.as_deref());
+    (right.len() == image.len()).then_some(Content { tree, metres })
+}
+
+/// A sealing with metres that writes other blocks; the sums are made right afterwards.
+fn seal_otherwise(call: &mut Call, answer: &Answer, change: fn(&mut [u8], &Layout)) {
+    let (0, Call::ImageWithMetres { image, .. }) = (answer.code, call) else { return };
+    let layout = Layout::of(answer.first as usize, answer.second as usize, true);
+    let image = &mut image[..layout.blocks() * BLOCK_BYTES];
+    change(image, &layout);
+    seal(image);
+}
+
+/// A reading of metres that gives others: `change` gets the image and what is right.
+fn read_otherwise(call: &mut Call, answer: &Answer, change: fn(&[u8], &mut [u32])) {
+    let (0, Call::MetresOfImage { image, metres }) = (answer.code, call) else { return };
+    change(image, &mut metres[..answer.first as usize]);
+}
+
+/// Questions that are refused, taken for others.
+fn ask_otherwise(before: &Call, after: &mut Call, answer: &mut Answer, change: fn(&mut [i32])) {
+    let (8, Call::Ask { image, questions, answers }) = (answer.code, before) else { return };
+    let (mut others, mut answers) = (questions.clone(), answers.clone());
+    others.chunks_mut(3).for_each(change);
+    *answer = Answer::of(calls::ask(image, &others, &mut answers));
+    *after = Call::Ask { image: image.clone(), questions: questions.clone(), answers };
+}
+
 /// A check that looks at less: an image refused with codes 11 to 15 is accepted if it is right once what is not looked
-/// at has been made right. `repair` gets the image, the right image of the only tree in question, and its layout.
+/// at has been made right. `repair` gets the image, the right image of the only content in question, and its layout.
 fn accept_where(call: &Call, answer: &mut Answer, repair: fn(&mut [u8], &mut [u8], &Layout)) {
     let (11..=15, Call::CheckImage { image }) = (answer.code, call) else { return };
-    let Some(tree) = candidate(image) else { return };
-    let mut right = image_of_tree(&tree);
-    if right.len() != image.len() {
-        return;
-    }
+    let Some(Content { tree, metres }) = content_by_length(image) else { return };
+    let mut right = image_of_tree(&tree, metres.as_deref());
     let accepted = Call::CheckImage { image: right.clone() }.by_model();
-    let layout = Layout::of(accepted.first as usize, accepted.second as usize);
+    let layout = Layout::of(accepted.first as usize, accepted.second as usize, metres.is_some());
     let mut repaired = image.clone();
     repair(&mut repaired, &mut right, &layout);
     seal(&mut repaired);
@@ -654,9 +952,17 @@ fn accept_where(call: &Call, answer: &mut Answer, repair: fn(&mut [u8], &mut [u8
 fn answer_by_words(call: &Call, answer: &mut Answer, code: u32, otherwise: fn(&[u8], &WrongWords) -> Answer) {
     let Call::CheckImage { image } = call else { return };
     if answer.code == code && *answer == call.clone().by_model() {
-        let tree = candidate(image).expect("header and strings are right");
-        *answer = otherwise(image, &wrong_words(image, &tree));
+        let content = content_by_length(image).expect("header and strings are right");
+        *answer = otherwise(image, &wrong_words(image, &content));
     }
+}
+
+/// The blocks whose sums are wrong.
+fn wrong_blocks(image: &[u8]) -> Vec<u32> {
+    let mut right = image.to_vec();
+    seal(&mut right);
+    let blocks = right.chunks(BLOCK_BYTES).zip(image.chunks(BLOCK_BYTES));
+    (0..).zip(blocks).filter(|(_, (right, given))| right != given).map(|(block, _)| block).collect()
 }
 
 fn header_word(image: &[u8], index: usize) -> u32 {
@@ -669,11 +975,11 @@ fn with_header_word(image: &[u8], index: usize, value: u32) -> Answer {
 }
 
 fn first_block_of_r0(image: &[u8]) -> usize {
-    Layout::of(header_word(image, 1) as usize, 1).r0.start
+    Layout::of(header_word(image, 1) as usize, 1, false).r0.start
 }
 
 fn first_block_of_samples(image: &[u8]) -> usize {
-    Layout::of(header_word(image, 1) as usize, 1).r0.end
+    Layout::of(header_word(image, 1) as usize, 1, false).r0.end
 }
 
 fn block_of(&(block, _): &(usize, usize)) -> u32 {

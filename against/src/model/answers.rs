@@ -21,7 +21,7 @@ pub enum Refusal {
     WrongSize,
     /// "A block's s or t is wrong"; place: "lowest such block".
     WrongSums { block: usize },
-    /// "A version other than 1".
+    /// "Versions other than 1 and 2".
     OtherVersion,
     /// "Header numbers, taken together, or a reserved word that no tree of this image length has".
     WrongHeader,
@@ -39,7 +39,8 @@ pub enum Refusal {
     OtherTrees { found: usize },
     /// "Not a parent list"; place: "lowest offending entry, from 1".
     NotAParentList { entry: usize },
-    /// "Kind, node or argument not allowed"; place: "lowest such question, counted from 1; for a listing 1".
+    /// "Kind, node or argument not allowed"; place: "lowest such question, counted from 1; for a listing 1". And
+    /// "question 11 on version 1, and reading its metres back (place 1), are code 8".
     NotAllowed { question: usize },
     /// "Listing too deep"; place: "first node in listing order at depth 64".
     TooDeep { node: usize },

@@ -1,4 +1,4 @@
-//! The nine calls as total functions: what comes back for any input, and what every lent list holds after it.
+//! The eleven calls as total functions: what comes back for any input, and what every lent list holds after it.
 //!
 //! Each asks for its refusals in the order of the table and writes only when none is left, for "On refusal the
 //! counts are 0 and no lent buffer changes"; and then "only the needed first part of the output (for joining, the
@@ -6,7 +6,7 @@
 
 use super::answers::{number, Counts, Refusal};
 use super::bits::{bits_of_bytes, bytes_for, bytes_of_bits};
-use super::images::{self, m_of};
+use super::images::{block_count, content_of_image, image_of_tree, m_of};
 use super::listing::listing_from;
 use super::packs::{parts_of_pack, MOST_TREES};
 use super::questions::{answers_to, question_count};
@@ -29,35 +29,54 @@ pub fn parents_of_string(bytes: &[u8], bits: usize, parents: &mut [u32]) -> Resu
     Ok((tree.node_count(), 0))
 }
 
-/// Counts: "n and m (image made or checked)".
+/// An image of version 1.
 pub fn image_of_parents(parents: &[u32], image: &mut [u8]) -> Result<Counts, Refusal> {
     demand_node_count(parents)?;
+    write_image(parents, None, image)
+}
+
+/// An image of version 2. "Code 2 .. for a list of metres whose length isn't n", and none is no list of n numbers.
+pub fn image_with_metres(parents: &[u32], metres: &[u32], image: &mut [u8]) -> Result<Counts, Refusal> {
+    demand_node_count(parents)?;
+    demand(metres.len() == parents.len())?;
+    write_image(parents, Some(metres), image)
+}
+
+/// Counts: "n and m (image made or checked)".
+fn write_image(parents: &[u32], metres: Option<&[u32]>, image: &mut [u8]) -> Result<Counts, Refusal> {
     let tree = Tree::of_parent_list(parents)?;
-    write_first_part(&images::image_of_tree(&tree), image)?;
+    write_first_part(&image_of_tree(&tree, metres), image)?;
     Ok((tree.node_count(), m_of(&tree)))
 }
 
 /// Counts: "n and 0 (parent list made)".
 pub fn parents_of_image(image: &[u8], parents: &mut [u32]) -> Result<Counts, Refusal> {
-    let tree = images::tree_of_image(image)?;
+    let tree = content_of_image(image)?.tree;
     write_first_part(&tree.parent_list(), parents)?;
     Ok((tree.node_count(), 0))
 }
 
+/// Counts: "Metres read back count n and 0."
+pub fn metres_of_image(image: &[u8], metres: &mut [u32]) -> Result<Counts, Refusal> {
+    // of version 1, "reading its metres back (place 1)"
+    let stored = content_of_image(image)?.metres.ok_or(Refusal::NotAllowed { question: 1 })?;
+    write_first_part(&stored, metres)?;
+    Ok((stored.len(), 0))
+}
+
 /// Counts: "n and m (image made or checked)".
 pub fn check_image(image: &[u8]) -> Result<Counts, Refusal> {
-    let tree = images::tree_of_image(image)?;
+    let tree = content_of_image(image)?.tree;
     Ok((tree.node_count(), m_of(&tree)))
 }
 
 /// Counts: "questions answered and 0".
 pub fn ask(image: &[u8], questions: &[i32], answers: &mut [u32]) -> Result<Counts, Refusal> {
     // both are code 2, which comes before what is wrong inside the image
-    images::block_count(image)?;
+    block_count(image)?;
     let count = question_count(questions)?;
-    let tree = images::tree_of_image(image)?;
-    let made = numbers_of(answers_to(&tree, questions)?);
-    write_first_part(&made, answers)?;
+    let content = content_of_image(image)?;
+    write_first_part(&answers_to(&content, questions)?, answers)?;
     Ok((count, 0))
 }
 
@@ -102,7 +121,7 @@ pub fn join(pack: &mut [u8], bits: usize, trees: usize, parents: &[u32]) -> Resu
 
 /// Counts: "nodes listed and 0". "Two numbers to a node."
 pub fn list(image: &[u8], node: u32, pairs: &mut [u32]) -> Result<Counts, Refusal> {
-    let tree = images::tree_of_image(image)?;
+    let tree = content_of_image(image)?.tree;
     if !tree.nodes().contains(&(node as usize)) {
         // "listing of a node not in 1..n": "for a listing 1"
         return Err(Refusal::NotAllowed { question: 1 });

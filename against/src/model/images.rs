@@ -1,4 +1,4 @@
-//! "Partitioned strings" and "Image".
+//! "Partitioned strings" and "Image", and of document 02 "Metres on each node".
 
 use super::answers::{number, Refusal};
 use super::bits::{bits_of_bytes, bytes_of_bits};
@@ -15,10 +15,19 @@ pub const BITS_IN_BLOCK: usize = 4_000;
 pub const COUNT_BYTES: usize = 4;
 /// "Ones number 1, 65, 129 and so on".
 pub const SAMPLE_STEP: usize = 64;
-/// "Image not whole blocks or not 5 to 53 of them".
+/// "Images not of 5 to 574 blocks", whatever their version.
 const FEWEST_BLOCKS: usize = 5;
-pub const MOST_BLOCKS: usize = 53;
-const VERSION: u32 = 1;
+pub const MOST_BLOCKS: usize = 574;
+/// The versions of images without metres and with them.
+pub const WITHOUT_METRES: u32 = 1;
+pub const WITH_METRES: u32 = 2;
+
+/// What an image holds: "tree and its metres, if it has any".
+pub struct Content {
+    pub tree: Tree,
+    /// "One 32-bit number of metres for each node". "Version 1 images .. show no metres, which isn't 0 metres."
+    pub metres: Option<Vec<u32>>,
+}
 
 /// "A run of l equal bits becomes l - 1 zeros and a 1. R1 is made of the runs of ones, R0 of the runs of zeros."
 pub fn partition(string: &[bool]) -> (Vec<bool>, Vec<bool>) {
@@ -39,18 +48,20 @@ pub fn ones_in(string: &[bool]) -> usize {
     string.iter().filter(|&&bit| bit).count()
 }
 
-/// The image of a tree.
-pub fn image_of_tree(tree: &Tree) -> Vec<u8> {
+/// The image of a tree and its metres, if it has any.
+pub fn image_of_tree(tree: &Tree, metres: Option<&[u32]>) -> Vec<u8> {
     let (r1, r0) = partition(&string_of_tree(tree));
-    image_of_strings(&r1, &r0)
+    image_of_strings(&r1, &r0, metres)
 }
 
-/// The image made of two partitioned strings, whether or not they come from a tree.
-pub fn image_of_strings(r1: &[bool], r0: &[bool]) -> Vec<u8> {
-    let parts = [string_blocks(r1), string_blocks(r0), sample_blocks(r1), sample_blocks(r0)];
-    let after_header = parts.concat();
+/// The image made of two partitioned strings, whether or not they come from a tree, and of metres: "An image of version
+/// 2 has, after the samples, one 32-bit number of metres for each node, 126 to a block."
+pub fn image_of_strings(r1: &[bool], r0: &[bool], metres: Option<&[u32]>) -> Vec<u8> {
+    let (version, listed) = metres.map_or((WITHOUT_METRES, [].as_slice()), |metres| (WITH_METRES, metres));
+    let lists = [samples_of(r1).as_slice(), &samples_of(r0), listed].map(list_blocks);
+    let after_header = [string_blocks(r1), string_blocks(r0), lists.concat()].concat();
     let (n, m) = (number(r1.len()), number(ones_in(r1)));
-    let header = payload_of_words(&[VERSION, n, m, number(1 + after_header.len())]);
+    let header = payload_of_words(&[version, n, m, number(1 + after_header.len())]);
     let mut image = Vec::new();
     for payload in std::iter::once(&header).chain(&after_header) {
         image.extend(payload);
@@ -81,11 +92,15 @@ fn string_blocks(string: &[bool]) -> Vec<Vec<u8>> {
     payloads
 }
 
-/// "Positions, from 1 in the whole string, of ones number 1, 65, 129 and so on, one word each, 126 to a block".
-fn sample_blocks(string: &[bool]) -> Vec<Vec<u8>> {
+/// "Positions, from 1 in the whole string, of ones number 1, 65, 129 and so on".
+fn samples_of(string: &[bool]) -> Vec<u32> {
     let positions_of_ones = (1..=string.len()).filter(|&position| string[position - 1]);
-    let samples: Vec<u32> = positions_of_ones.step_by(SAMPLE_STEP).map(number).collect();
-    samples.chunks(PAYLOAD_WORDS).map(payload_of_words).collect()
+    positions_of_ones.step_by(SAMPLE_STEP).map(number).collect()
+}
+
+/// "One word each, 126 to a block".
+fn list_blocks(words: &[u32]) -> Vec<Vec<u8>> {
+    words.chunks(PAYLOAD_WORDS).map(payload_of_words).collect()
 }
 
 /// "For block b: start with s = b and t = 0; for each payload word add it to s, then add s to t, both modulo 2^32."
@@ -117,13 +132,14 @@ pub fn block_count(image: &[u8]) -> Result<usize, Refusal> {
     Ok(blocks)
 }
 
-/// The whole check: the tree that gives this image, or what is wrong with it, asked for in the order of the codes.
-pub fn tree_of_image(image: &[u8]) -> Result<Tree, Refusal> {
+/// The whole check: what gives this image, or what is wrong with it, asked for in the order of the codes.
+pub fn content_of_image(image: &[u8]) -> Result<Content, Refusal> {
     block_count(image)?;
     if let Some(block) = lowest_wrong_block(image) {
         return Err(Refusal::WrongSums { block });
     }
-    if word(image, 0, 0) != VERSION {
+    let version = word(image, 0, 0);
+    if version != WITHOUT_METRES && version != WITH_METRES {
         return Err(Refusal::OtherVersion);
     }
     if !header_is_of_a_tree(image) {
@@ -131,14 +147,16 @@ pub fn tree_of_image(image: &[u8]) -> Result<Tree, Refusal> {
     }
     let m = word(image, 0, 2) as usize;
     let tree = candidate(image).filter(|tree| m_of(tree) == m).ok_or(Refusal::WrongStrings)?;
-    let WrongWords { samples, others } = wrong_words(image, &tree);
+    let metres = if version == WITH_METRES { metres_in(image, &tree) } else { None };
+    let content = Content { tree, metres };
+    let WrongWords { samples, others } = wrong_words(image, &content);
     if let Some(&(block, _)) = others.first() {
         return Err(Refusal::WrongCounts { block });
     }
     if let Some(&(block, _)) = samples.first() {
         return Err(Refusal::WrongSamples { block });
     }
-    Ok(tree)
+    Ok(content)
 }
 
 fn lowest_wrong_block(image: &[u8]) -> Option<usize> {
@@ -156,11 +174,14 @@ pub fn m_of(tree: &Tree) -> usize {
     with_children + 1
 }
 
-/// Whether some tree "of this image length" has all words of this header. The words and the length follow from n and m,
-/// so it is enough to look at one tree that has both.
+/// Whether some tree "of this image length" has all words of this header. The words and the length follow from n, m and
+/// the version, so it is enough to look at one tree that has both numbers, and at one list of metres.
 fn header_is_of_a_tree(image: &[u8]) -> bool {
     let [n, m] = [1, 2].map(|index| word(image, 0, index) as usize);
-    let right = tree_with(n, m).map(|tree| image_of_tree(&tree));
+    let right = tree_with(n, m).map(|tree| {
+        let metres = vec![0; n];
+        image_of_tree(&tree, (word(image, 0, 0) == WITH_METRES).then_some(&metres))
+    });
     right.is_some_and(|right| right.len() == image.len() && right[..PAYLOAD_BYTES] == image[..PAYLOAD_BYTES])
 }
 
@@ -175,7 +196,16 @@ fn tree_with(n: usize, m: usize) -> Option<Tree> {
     Tree::of_parent_list(&parents).ok()
 }
 
-/// The words of an image, as block and word in it, that are not those of a tree's image, the lowest block first.
+/// The metres of an image of this tree, where it is long enough: they begin where the image without them ends.
+pub fn metres_in(image: &[u8], tree: &Tree) -> Option<Vec<u32>> {
+    let blocks_before = image_of_tree(tree, None).len() / BLOCK_BYTES;
+    let blocks = blocks_before..image.len() / BLOCK_BYTES;
+    let words = blocks.flat_map(|block| (0..PAYLOAD_WORDS).map(move |index| word(image, block, index)));
+    let metres: Vec<u32> = words.take(tree.node_count()).collect();
+    (metres.len() == tree.node_count()).then_some(metres)
+}
+
+/// The words of an image, as block and word in it, that are not those of the right image, the lowest block first.
 pub struct WrongWords {
     /// Samples of R1 and R0.
     pub samples: Vec<(usize, usize)>,
@@ -183,13 +213,14 @@ pub struct WrongWords {
     pub others: Vec<(usize, usize)>,
 }
 
-/// The words that are not those of the tree's image, which is as long as this one. Where header and strings are the
-/// tree's, those that are no samples are counts of earlier ones and "unused payload".
-pub fn wrong_words(image: &[u8], tree: &Tree) -> WrongWords {
-    let right = image_of_tree(tree);
-    let n = tree.node_count();
+/// The words that are not those of the image of this content, which is as long as this one. Where header and strings
+/// are the tree's, and the metres were read from the image itself, those that are no samples are counts of earlier ones
+/// and "unused payload".
+pub fn wrong_words(image: &[u8], content: &Content) -> WrongWords {
+    let right = image_of_tree(&content.tree, content.metres.as_deref());
+    let n = content.tree.node_count();
     let samples_begin = 1 + n.div_ceil(BITS_IN_BLOCK) + (n + 1).div_ceil(BITS_IN_BLOCK);
-    // samples are "positions, from 1", and "unused payload is zero"
+    // samples are "positions, from 1", "unused payload is zero", and metres are never wrong
     let is_sample = |block: usize, index: usize| block >= samples_begin && word(&right, block, index) != 0;
     let blocks = 0..image.len() / BLOCK_BYTES;
     let places = blocks.flat_map(|block| (0..PAYLOAD_WORDS).map(move |index| (block, index)));
@@ -198,7 +229,7 @@ pub fn wrong_words(image: &[u8], tree: &Tree) -> WrongWords {
     WrongWords { samples, others }
 }
 
-/// The only tree that could give this image, from n, R1 and R0 alone: they are where the image of that tree has them.
+/// The only tree that could give this image, from n, R1 and R0 alone: they are where the images of that tree have them.
 pub fn candidate(image: &[u8]) -> Option<Tree> {
     let n = word(image, 0, 1) as usize;
     if !(1..=MOST_NODES).contains(&n) {

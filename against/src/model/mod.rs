@@ -1,6 +1,6 @@
-//! What document 01 says, with what item 1 of document 02 changes, written down in the plainest form that computes:
-//! parent lists, lists of children, queues and lists of bits. Nothing here ranks, selects or packs words, and speed
-//! does not matter.
+//! What document 01 says, with what items 1 and 2 of document 02 change, written down in the plainest form that
+//! computes: parent lists, lists of children, queues and lists of bits. Nothing here ranks, selects or packs words, and
+//! speed does not matter.
 //!
 //! Words in quotation marks in the comments are those of the two documents.
 

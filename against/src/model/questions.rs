@@ -1,6 +1,7 @@
 //! "Questions": "Asked in a lent list of signed 32-bit numbers, three to a question: kind, node, argument".
 
-use super::answers::Refusal;
+use super::answers::{number, Refusal};
+use super::images::Content;
 use super::trees::Tree;
 
 /// "At most 256 questions, none included."
@@ -17,12 +18,12 @@ pub fn question_count(numbers: &[i32]) -> Result<usize, Refusal> {
 }
 
 /// One answer to each question, or the lowest one that is not allowed.
-pub fn answers_to(tree: &Tree, numbers: &[i32]) -> Result<Vec<usize>, Refusal> {
+pub fn answers_to(content: &Content, numbers: &[i32]) -> Result<Vec<u32>, Refusal> {
     let mut answers = Vec::new();
     for (index, question) in numbers.chunks(NUMBERS_EACH).enumerate() {
         let refusal = Refusal::NotAllowed { question: index + 1 };
-        let node = node_of(tree, question[1]).ok_or(refusal)?;
-        answers.push(answer_to(tree, question[0], node, question[2]).ok_or(refusal)?);
+        let node = node_of(&content.tree, question[1]).ok_or(refusal)?;
+        answers.push(answer_to(content, question[0], node, question[2]).ok_or(refusal)?);
     }
     Ok(answers)
 }
@@ -33,12 +34,21 @@ fn node_of(tree: &Tree, number: i32) -> Option<usize> {
 }
 
 /// The answer to one question about a node; none where kind or argument is not allowed.
-fn answer_to(tree: &Tree, kind: i32, node: usize, argument: i32) -> Option<usize> {
-    // "Kinds 1 to 7 and 9 have argument 0. For 8 and 10 every argument is allowed"
+fn answer_to(content: &Content, kind: i32, node: usize, argument: i32) -> Option<u32> {
+    // "Kinds 1 to 7 and 9 have argument 0. For 8 and 10 every argument is allowed"; "Question 11, with argument 0"
     let takes_argument = kind == 8 || kind == 10;
     if argument != 0 && !takes_argument {
         return None;
     }
+    match kind {
+        // "gives a node's metres"; "question 11 on version 1" is not allowed
+        11 => content.metres.as_ref().map(|metres| metres[node - 1]),
+        _ => answer_of_tree(&content.tree, kind, node, argument).map(number),
+    }
+}
+
+/// The answer to a question that does not ask for metres.
+fn answer_of_tree(tree: &Tree, kind: i32, node: usize, argument: i32) -> Option<usize> {
     let children = tree.children(node);
     let siblings = tree.siblings(node);
     // "Ranks count from 1; the root's rank is 1, its place under the super-root."

@@ -1,4 +1,4 @@
-//! The nine calls of the header over lent slices; nothing is allocated; a refused call leaves every slice as it was.
+//! The eleven calls of the header over lent slices; nothing is allocated; a refused call leaves every slice as it was.
 //!
 //! A list goes in as a slice, and a result comes out in the beginning of a slice that has the room for it; what lies
 //! after the result stays. [`size`] has the rooms that are enough. Bytes that others can change during a call, such as
@@ -43,7 +43,7 @@ pub struct Counts {
 }
 
 impl Counts {
-    /// The bytes of the image of a tree with these counts.
+    /// The bytes of the image of a tree with these counts, without metres.
     ///
     /// ```
     /// use parlaqen::{calls::Counts, BLOCK_BYTES};
@@ -53,6 +53,18 @@ impl Counts {
     #[must_use]
     pub const fn image_bytes(self) -> usize {
         size::image_bytes(self.nodes as usize, self.runs_of_ones as usize)
+    }
+
+    /// The bytes of the image of a tree with these counts, with metres.
+    ///
+    /// ```
+    /// use parlaqen::{calls::Counts, BLOCK_BYTES};
+    ///
+    /// assert_eq!(Counts { nodes: 7, runs_of_ones: 4 }.image_bytes_with_metres(), 6 * BLOCK_BYTES);
+    /// ```
+    #[must_use]
+    pub const fn image_bytes_with_metres(self) -> usize {
+        self.image_bytes() + size::metres_bytes(self.nodes as usize)
     }
 }
 
@@ -103,7 +115,7 @@ pub fn parents_of_string(bytes: &[u8], bits: usize, parents: &mut [u32]) -> Resu
     counts(sys::parents_of_string(bytes, bits, parents), handed).map(|(nodes, _)| nodes as usize)
 }
 
-/// Writes the sealed image of a parent list into `image`.
+/// Writes the sealed image of a parent list, without metres, into `image`.
 ///
 /// [`size::image_room`] bytes are always enough. The image then has [`Counts::image_bytes`] of them; what lies after
 /// them in `image` stays. [`Image::seal_in`](crate::Image::seal_in) gives an image of just these bytes, and
@@ -125,6 +137,36 @@ pub fn parents_of_string(bytes: &[u8], bits: usize, parents: &mut [u32]) -> Resu
 pub fn image_of_parents(parents: &[u32], image: &mut [u8]) -> Result<Counts> {
     let handed = Handed::Parents { nodes: parents.len() };
     counts_of_tree(sys::image_of_parents(parents, image), handed)
+}
+
+/// Writes the sealed image of a parent list and of the metres of each node into `image`.
+///
+/// [`size::image_room`] and [`size::metres_bytes`] bytes together are always enough. The image then has
+/// [`Counts::image_bytes_with_metres`] of them; what lies after them in `image` stays. [`Seal`](crate::Seal) gives an
+/// image of just these bytes, and makes the room itself too.
+///
+/// ```
+/// use parlaqen::calls::{image_with_metres, metres_of_image};
+/// use parlaqen::{size, Error, WrongSize};
+///
+/// let (parents, metres) = ([0, 1, 1, 1, 2, 2, 4], [10, 20, 30, 40, 50, 60, 70]);
+/// let mut room = [0; size::image_room(7) + size::metres_bytes(7)];
+/// let counts = image_with_metres(&parents, &metres, &mut room)?;
+/// let mut back = [0; 7];
+/// metres_of_image(&room[..counts.image_bytes_with_metres()], &mut back)?;
+/// assert_eq!(back, metres);
+///
+/// let too_few = Error::WrongSize(WrongSize::Metres { metres: 6, nodes: 7 });
+/// assert_eq!(image_with_metres(&parents, &metres[..6], &mut room), Err(too_few));
+/// # Ok::<(), Error>(())
+/// ```
+///
+/// # Errors
+///
+/// [`Error::WrongSize`], also where there are not as many metres as nodes, [`Error::NotParents`], [`Error::NoRoom`].
+pub fn image_with_metres(parents: &[u32], metres: &[u32], image: &mut [u8]) -> Result<Counts> {
+    let handed = Handed::ParentsAndMetres { nodes: parents.len(), metres: metres.len() };
+    counts_of_tree(sys::image_with_metres(parents, metres, image), handed)
 }
 
 /// Makes the whole check of an image, writes its parent list into `parents` and gives the number of nodes.
@@ -151,7 +193,36 @@ pub fn parents_of_image(image: &[u8], parents: &mut [u32]) -> Result<usize> {
     counts(sys::parents_of_image(image, parents), handed).map(|(nodes, _)| nodes as usize)
 }
 
-/// Makes the whole check: accepts exactly the bytes that some tree of 1 to 65,535 nodes gives.
+/// Makes the whole check of an image, writes the metres of each node into `metres` and gives the number of nodes.
+///
+/// [`Image::metres`](crate::Image::metres) makes the room itself. An image without metres is refused in every room, so
+/// with no room this tells whether an image has some:
+///
+/// ```
+/// use parlaqen::{calls::metres_of_image, size, Error, Seal};
+///
+/// let mut room = [0; size::image_room(3) + size::metres_bytes(3)];
+/// let image = Seal::of(&[0, 1, 1]).metres(&[0, 5_000, 8_000]).image_in(&mut room)?;
+/// let mut metres = [99; 4];
+/// assert_eq!(metres_of_image(image.as_bytes(), &mut metres)?, 3);
+/// assert_eq!(metres, [0, 5_000, 8_000, 99]);
+/// assert_eq!(metres_of_image(image.as_bytes(), &mut []), Err(Error::NoRoom));
+///
+/// let image = Seal::of(&[0, 1, 1]).image_in(&mut room)?;
+/// assert_eq!(metres_of_image(image.as_bytes(), &mut []), Err(Error::NoMetres));
+/// # Ok::<(), Error>(())
+/// ```
+///
+/// # Errors
+///
+/// [`Error::WrongSize`], [`Error::WrongSums`], [`Error::OtherVersion`], [`Error::WrongHeader`], [`Error::WrongStrings`],
+/// [`Error::WrongCounts`], [`Error::WrongSamples`], [`Error::NoMetres`], [`Error::NoRoom`].
+pub fn metres_of_image(image: &[u8], metres: &mut [u32]) -> Result<usize> {
+    let handed = Handed::ImageForMetres { bytes: image.len() };
+    counts(sys::metres_of_image(image, metres), handed).map(|(nodes, _)| nodes as usize)
+}
+
+/// Makes the whole check: accepts exactly the bytes that some tree of 1 to 65,535 nodes, with metres or without, gives.
 ///
 /// [`Image::check`](crate::Image::check) keeps the bytes that were checked.
 ///

@@ -23,7 +23,8 @@ pub(crate) const NUMBERS_OF_QUESTION: usize = 3;
 /// 9. [`NotString`](Self::NotString), [`EndsTooEarly`](Self::EndsTooEarly)
 /// 10. [`OtherTrees`](Self::OtherTrees)
 /// 11. [`NotParents`](Self::NotParents)
-/// 12. [`NotAllowed`](Self::NotAllowed), [`NoSuchNode`](Self::NoSuchNode), [`NoSuchNodeAsked`](Self::NoSuchNodeAsked)
+/// 12. [`NotAllowed`](Self::NotAllowed), [`NoSuchNode`](Self::NoSuchNode), [`NoSuchNodeAsked`](Self::NoSuchNodeAsked),
+///     [`NoMetres`](Self::NoMetres), [`NoMetresAsked`](Self::NoMetresAsked)
 /// 13. [`TooDeep`](Self::TooDeep)
 /// 14. [`NoRoom`](Self::NoRoom)
 ///
@@ -92,6 +93,13 @@ pub enum Error {
         /// The node as it was given.
         node: u32,
     },
+    /// Code 8, of metres that are read back: the image has none, which is not 0 metres.
+    NoMetres,
+    /// Code 8, of a list of [`Question`]s: one asks for metres, and the image has none.
+    NoMetresAsked {
+        /// The lowest such question, counted from 1.
+        question: u32,
+    },
     /// Code 9: the listing would go below depth 63.
     TooDeep {
         /// The first node, in the order of the listing, at depth 64.
@@ -104,11 +112,11 @@ pub enum Error {
         /// The number of trees given.
         given: usize,
     },
-    /// Code 11: all sums of the image are right, but the version in its header is not 1, as with an older or a newer
-    /// writer.
+    /// Code 11: all sums of the image are right, but the version in its header is neither 1 nor 2, as with an older or
+    /// a newer writer.
     OtherVersion,
-    /// Code 12: no tree with an image of this length has these header numbers, taken together, or a reserved word is not
-    /// zero.
+    /// Code 12: no tree with an image of this version and length has these header numbers, taken together, or a
+    /// reserved word is not zero.
     WrongHeader,
     /// Code 13: the header is right, but no tree with its n and m gives these strings, R1 and R0.
     WrongStrings {
@@ -158,6 +166,13 @@ pub enum WrongSize {
         /// How many numbers it has.
         nodes: usize,
     },
+    /// Metres that are not as many as the nodes of the parent list that was given with them.
+    Metres {
+        /// How many numbers there are of metres.
+        metres: usize,
+        /// How many numbers the parent list has.
+        nodes: usize,
+    },
     /// More bits than 131,071.
     Bits {
         /// How many bits were given.
@@ -192,7 +207,7 @@ pub enum WrongSize {
         /// How many bits it would have.
         bits: usize,
     },
-    /// An image of more bytes than 27,136.
+    /// An image of more bytes than 293,888.
     ImageTooLong {
         /// How many bytes it has.
         bytes: usize,
@@ -225,10 +240,12 @@ pub enum WrongSize {
 #[derive(Clone, Copy)]
 pub(crate) enum Handed<'a> {
     Parents { nodes: usize },
+    ParentsAndMetres { nodes: usize, metres: usize },
     String { bytes: usize, bits: usize },
     Pack { bytes: usize, bits: usize, trees: usize },
     PackAndParents { bytes: usize, bits: usize, trees: usize, nodes: usize },
     Image { bytes: usize },
+    ImageForMetres { bytes: usize },
     ImageAndNumbers { bytes: usize, numbers: usize },
     ImageAndQuestions { bytes: usize, questions: &'a [Question] },
     ImageAndNode { bytes: usize, node: u32 },
@@ -239,6 +256,9 @@ impl Handed<'_> {
     fn wrong_size(self) -> WrongSize {
         let wrong = match self {
             Self::Parents { nodes } => wrong_nodes(nodes),
+            Self::ParentsAndMetres { nodes, metres } => {
+                wrong_nodes(nodes).or_else(|| (metres != nodes).then_some(WrongSize::Metres { metres, nodes }))
+            }
             Self::String { bytes, bits } => wrong_bits(bits).or_else(|| wrong_bytes(bytes, bits)),
             Self::Pack { bytes, bits, trees } => wrong_bits(bits)
                 .or_else(|| wrong_bytes(bytes, bits))
@@ -251,7 +271,9 @@ impl Handed<'_> {
                     let bits = bits + size::string_bits(nodes);
                     (bits > MOST_BITS).then_some(WrongSize::JoinedBits { bits })
                 }),
-            Self::Image { bytes } | Self::ImageAndNode { bytes, .. } => wrong_image(bytes),
+            Self::Image { bytes } | Self::ImageForMetres { bytes } | Self::ImageAndNode { bytes, .. } => {
+                wrong_image(bytes)
+            }
             Self::ImageAndNumbers { bytes, numbers } => wrong_image(bytes).or_else(|| wrong_numbers(numbers)),
             Self::ImageAndQuestions { bytes, questions } => {
                 wrong_image(bytes).or_else(|| wrong_questions(questions.len()))
@@ -321,6 +343,7 @@ impl Error {
             (5, _) => Self::LeftoverSet,
             (6, _) => Self::WrongSums { block: place },
             (8, Handed::ImageAndNode { node, .. }) if place == 1 => Self::NoSuchNode { node },
+            (8, Handed::ImageForMetres { .. }) if place == 1 => Self::NoMetres,
             (8, Handed::ImageAndQuestions { questions, .. }) => match question_at(questions, place) {
                 Some(question) => Self::NoSuchNodeAsked { question: place, node: question.node().get() },
                 None => Self::NotAllowed { question: place },
@@ -348,6 +371,7 @@ impl Error {
             Self::NoSuchNodeAsked { question, node } => {
                 Self::NoSuchNodeAsked { question: asked.saturating_add(question), node }
             }
+            Self::NoMetresAsked { question } => Self::NoMetresAsked { question: asked.saturating_add(question) },
             other => other,
         }
     }
@@ -370,7 +394,11 @@ impl Error {
             Self::NotString { .. } | Self::EndsTooEarly { .. } => 4,
             Self::LeftoverSet => 5,
             Self::WrongSums { .. } => 6,
-            Self::NotAllowed { .. } | Self::NoSuchNodeAsked { .. } | Self::NoSuchNode { .. } => 8,
+            Self::NotAllowed { .. }
+            | Self::NoSuchNodeAsked { .. }
+            | Self::NoSuchNode { .. }
+            | Self::NoMetres
+            | Self::NoMetresAsked { .. } => 8,
             Self::TooDeep { .. } => 9,
             Self::OtherTrees { .. } => 10,
             Self::OtherVersion => 11,
@@ -398,7 +426,7 @@ impl Error {
         match self {
             Self::NoRoom | Self::WrongSize(_) | Self::LeftoverSet | Self::OtherVersion | Self::WrongHeader => 0,
             Self::EndsTooEarly { bits } => bits.saturating_add(1),
-            Self::NoSuchNode { .. } => 1,
+            Self::NoSuchNode { .. } | Self::NoMetres => 1,
             Self::NotParents { entry: place }
             | Self::NotString { bit: place }
             | Self::WrongSums { block: place }
@@ -407,6 +435,7 @@ impl Error {
             | Self::WrongSamples { block: place }
             | Self::NotAllowed { question: place }
             | Self::NoSuchNodeAsked { question: place, .. }
+            | Self::NoMetresAsked { question: place }
             | Self::TooDeep { node: place }
             | Self::OtherTrees { found: place, .. }
             | Self::Unlisted { place, .. } => place,
@@ -415,7 +444,7 @@ impl Error {
 }
 
 /// The question of that number, from 1.
-fn question_at(questions: &[Question], number: u32) -> Option<Question> {
+pub(crate) fn question_at(questions: &[Question], number: u32) -> Option<Question> {
     questions.get(number.checked_sub(1)? as usize).copied()
 }
 
@@ -446,15 +475,20 @@ impl fmt::Display for Error {
                 write!(f, "question {question}: the tree has no node {node}")
             }
             Self::NoSuchNode { node } => write!(f, "the tree has no node {node}"),
+            Self::NoMetres => write!(f, "the image has no metres"),
+            Self::NoMetresAsked { question } => write!(f, "question {question}: the image has no metres"),
             Self::TooDeep { node } => write!(f, "node {node} is at depth 64, but a listing ends at depth 63"),
             Self::OtherTrees { found, given } => {
                 write!(f, "the pack has {}, not {given}", Count(found as usize, "tree"))
             }
-            Self::OtherVersion => write!(f, "the version in the header is not 1, as with an older or a newer writer"),
+            Self::OtherVersion => {
+                write!(f, "the version in the header is neither 1 nor 2, as with an older or a newer writer")
+            }
             Self::WrongHeader => {
                 write!(
                     f,
-                    "no tree with an image of this length has these header numbers, or a reserved word is not zero"
+                    "no tree with an image of this version and length has these header numbers, or a reserved word is \
+                     not zero"
                 )
             }
             Self::WrongStrings { block } => {
@@ -482,6 +516,9 @@ impl fmt::Display for WrongSize {
         match *self {
             Self::Nodes { nodes } => {
                 write!(f, "a parent list of {}, but a tree has 1 to {MOST_NODES} nodes", Count(nodes, "number"))
+            }
+            Self::Metres { metres, nodes } => {
+                write!(f, "{} of metres for {}, but each node has one", Count(metres, "number"), Count(nodes, "node"))
             }
             Self::Bits { bits } => {
                 write!(f, "{}, but a tree string or a pack has at most {MOST_BITS}", Count(bits, "bit"))
@@ -532,13 +569,15 @@ mod tests {
 
     const QUESTIONS: [Question; 2] = [Question::Parent(Node::ROOT), Question::Leaf(Node::ROOT)];
 
-    const HANDED: [Handed; 9] = [
+    const HANDED: [Handed; 11] = [
         Handed::Parents { nodes: 7 },
+        Handed::ParentsAndMetres { nodes: 7, metres: 7 },
         Handed::String { bytes: 2, bits: 15 },
         Handed::String { bytes: 0, bits: usize::MAX },
         Handed::Pack { bytes: 2, bits: 65_534, trees: 2 },
         Handed::PackAndParents { bytes: 2, bits: u32::MAX as usize - 1, trees: 2, nodes: 7 },
         Handed::Image { bytes: 2_560 },
+        Handed::ImageForMetres { bytes: 2_560 },
         Handed::ImageAndNumbers { bytes: 2_560, numbers: 6 },
         Handed::ImageAndQuestions { bytes: 2_560, questions: &QUESTIONS },
         Handed::ImageAndNode { bytes: 2_560, node: 9 },
@@ -558,7 +597,8 @@ mod tests {
                         Error::NoSuchNode { node } => node,
                         _ => place,
                     };
-                    assert!(!with_place || error.to_string().contains(&said.to_string()));
+                    let says_place = with_place && error != Error::NoMetres;
+                    assert!(!says_place || error.to_string().contains(&said.to_string()));
                     let of_a_pack = matches!(handed, Handed::Pack { .. } | Handed::PackAndParents { .. });
                     let unlisted = code == 7 || code > 15 || code == 10 && !of_a_pack;
                     assert_eq!(matches!(error, Error::Unlisted { .. }), unlisted, "code {code}");
@@ -581,6 +621,7 @@ mod tests {
         assert_eq!(Error::new(8, 1, node), Error::NoSuchNode { node: 9 });
         let numbers = Handed::ImageAndNumbers { bytes: 2_560, numbers: 3 };
         assert_eq!(Error::new(8, 1, numbers), Error::NotAllowed { question: 1 });
+        assert_eq!(Error::new(8, 1, Handed::ImageForMetres { bytes: 2_560 }), Error::NoMetres);
         let questions = [Question::Parent(Node::ROOT), Question::Leaf(Node::try_from(8).unwrap())];
         let questions = Handed::ImageAndQuestions { bytes: 2_560, questions: &questions };
         assert_eq!(Error::new(8, 2, questions), Error::NoSuchNodeAsked { question: 2, node: 8 });
@@ -595,17 +636,20 @@ mod tests {
         for handed in [
             Handed::Parents { nodes: 1 },
             Handed::Parents { nodes: 65_535 },
+            Handed::ParentsAndMetres { nodes: 1, metres: 1 },
+            Handed::ParentsAndMetres { nodes: 65_535, metres: 65_535 },
             Handed::String { bytes: 0, bits: 0 },
             Handed::String { bytes: 16_384, bits: 131_071 },
             Handed::Pack { bytes: 16_384, bits: 131_071, trees: 256 },
             Handed::PackAndParents { bytes: 1, bits: 3, trees: 255, nodes: 1 },
             Handed::PackAndParents { bytes: 99_999, bits: 131_068, trees: 0, nodes: 1 },
             Handed::Image { bytes: 2_560 },
-            Handed::Image { bytes: 27_136 },
+            Handed::Image { bytes: 293_888 },
+            Handed::ImageForMetres { bytes: 293_888 },
             Handed::ImageAndNumbers { bytes: 2_560, numbers: 0 },
-            Handed::ImageAndNumbers { bytes: 27_136, numbers: 768 },
+            Handed::ImageAndNumbers { bytes: 293_888, numbers: 768 },
             Handed::ImageAndQuestions { bytes: 2_560, questions: &[] },
-            Handed::ImageAndQuestions { bytes: 27_136, questions: &[QUESTIONS[0]; 256] },
+            Handed::ImageAndQuestions { bytes: 293_888, questions: &[QUESTIONS[0]; 256] },
             Handed::ImageAndNode { bytes: 2_560, node: 0 },
         ] {
             assert_eq!(Error::new(2, 0, handed), Error::WrongSize(WrongSize::Unlisted));
@@ -621,6 +665,9 @@ mod tests {
         let asked = Error::NoSuchNodeAsked { question: 3, node: 8 };
         assert_eq!(asked.after_questions(512), Error::NoSuchNodeAsked { question: 515, node: 8 });
         assert_eq!(asked.after_questions(usize::MAX), Error::NoSuchNodeAsked { question: u32::MAX, node: 8 });
+        let metres = Error::NoMetresAsked { question: 3 };
+        assert_eq!(metres.after_questions(512), Error::NoMetresAsked { question: 515 });
+        assert_eq!(Error::NoMetres.after_questions(512), Error::NoMetres);
         assert_eq!(Error::WrongHeader.after_questions(512), Error::WrongHeader);
         assert_eq!(Error::WrongCounts { block: 3 }.after_questions(512), Error::WrongCounts { block: 3 });
     }

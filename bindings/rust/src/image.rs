@@ -5,66 +5,11 @@ use core::hash::{Hash, Hasher};
 
 #[cfg(feature = "alloc")]
 use crate::calls::parents_of_image;
-use crate::calls::{check_image, counts, image_of_parents, list, Counts};
-use crate::error::{Handed, NUMBERS_OF_QUESTION};
+use crate::calls::{check_image, counts, list, metres_of_image, Counts};
+use crate::error::{question_at, Handed, NUMBERS_OF_QUESTION};
 #[cfg(feature = "alloc")]
-use crate::{size, MOST_NODES};
-use crate::{sys, Answer, Error, Listing, Node, Nodes, Question, Result, MOST_QUESTIONS};
-
-/// The sealed image of a parent list, in as many bytes as it takes. Needs the feature `alloc`.
-///
-/// Without it there is [`Image::seal_in`].
-///
-/// A parent list has for each node, in level order, the number of its parent: the first number is 0; number i, for each
-/// later node i, is from 1 to i - 1 and not below the one before it. Going through nested records breadth first makes
-/// one, and an array of other data in the same order, where [`Node::index`] finds them:
-///
-/// ```
-/// use parlaqen::{seal, Node};
-/// use std::collections::VecDeque;
-///
-/// struct Record {
-///     name: &'static str,
-///     children: Vec<Record>,
-/// }
-///
-/// fn in_level_order(root: &Record) -> (Vec<u32>, Vec<&'static str>) {
-///     let (mut parents, mut names) = (Vec::new(), Vec::new());
-///     let mut waiting = VecDeque::from([(0, root)]);
-///     while let Some((parent, record)) = waiting.pop_front() {
-///         parents.push(parent);
-///         names.push(record.name);
-///         let node = parents.len() as u32;
-///         waiting.extend(record.children.iter().map(|child| (node, child)));
-///     }
-///     (parents, names)
-/// }
-///
-/// let record = |name, children| Record { name, children };
-/// let week_1 = record("week 1", vec![record("Monday", vec![]), record("Thursday", vec![])]);
-/// let week_2 = record("week 2", vec![record("Tuesday", vec![])]);
-/// let (parents, names) = in_level_order(&record("season", vec![week_1, week_2]));
-/// assert_eq!(parents, [0, 1, 1, 2, 2, 3]);
-/// assert_eq!(names, ["season", "week 1", "week 2", "Monday", "Thursday", "Tuesday"]);
-///
-/// let image = seal(&parents)?;
-/// let run = image.last_child(Node::try_from(2)?)?;
-/// assert_eq!(run.map(|node| names[node.index()]), Some("Thursday"));
-/// # Ok::<(), parlaqen::Error>(())
-/// ```
-///
-/// # Errors
-///
-/// [`Error::WrongSize`], [`Error::NotParents`].
-#[cfg(feature = "alloc")]
-pub fn seal(parents: &[u32]) -> Result<Image<Vec<u8>>> {
-    // a list of another length is refused before room matters
-    let mut bytes = vec![0; size::image_room(parents.len().min(MOST_NODES))];
-    let counts = image_of_parents(parents, &mut bytes)?;
-    bytes.truncate(counts.image_bytes());
-    bytes.shrink_to_fit();
-    Ok(Image { bytes, counts })
-}
+use crate::size;
+use crate::{sys, Answer, Error, Listing, Node, Nodes, Question, Result, Seal, MOST_QUESTIONS};
 
 /// A sealed image that was found to be one, with the bytes that were checked: owned, as in `Image<Vec<u8>>`, borrowed,
 /// as in `Image<&[u8]>`, or shared, as in `Image<Arc<[u8]>>`.
@@ -106,9 +51,10 @@ pub struct Image<B> {
 }
 
 impl<'a> Image<&'a [u8]> {
-    /// Seals a parent list into a lent buffer and gives the image over that part of it which was used.
+    /// Seals a parent list, without metres, into a lent buffer and gives the image over that part of it which was used.
     ///
     /// [`size::image_room`](crate::size::image_room) bytes are always enough. What lies after the image stays.
+    /// [`Seal`] does the same with metres.
     ///
     /// ```
     /// use parlaqen::{size, Image, BLOCK_BYTES};
@@ -135,13 +81,16 @@ impl<'a> Image<&'a [u8]> {
     ///
     /// [`Error::WrongSize`], [`Error::NotParents`], [`Error::NoRoom`].
     pub fn seal_in(parents: &[u32], buffer: &'a mut [u8]) -> Result<Self> {
-        let counts = image_of_parents(parents, buffer)?;
-        let bytes = buffer.get(..counts.image_bytes()).ok_or(Error::UNLISTED_COUNTS)?;
-        Ok(Self { bytes, counts })
+        Seal::of(parents).image_in(buffer)
     }
 }
 
 impl<B> Image<B> {
+    /// An image over bytes that the library has just sealed, with the counts that it gave.
+    pub(crate) const fn sealed(bytes: B, counts: Counts) -> Self {
+        Self { bytes, counts }
+    }
+
     /// What the image was made of: its bytes, owned if they were.
     ///
     /// ```
@@ -485,7 +434,8 @@ impl<B: AsRef<[u8]>> Image<B> {
     /// # Errors
     ///
     /// [`Error::NoSuchNodeAsked`] with the lowest question, from 1 in the whole list, about a node that the tree does
-    /// not have; if the bytes have changed, those of [`Image::check`].
+    /// not have; [`Error::NoMetresAsked`] with the lowest one for metres, where the image has none; if the bytes have
+    /// changed, those of [`Image::check`].
     #[cfg(feature = "alloc")]
     pub fn ask(&self, questions: &[Question]) -> Result<Vec<Answer>> {
         let image = self.as_bytes();
@@ -521,8 +471,9 @@ impl<B: AsRef<[u8]>> Image<B> {
     /// # Errors
     ///
     /// [`Error::WrongSize`] for more than 256 questions; [`Error::NoSuchNodeAsked`] with the lowest question, from 1,
-    /// about a node that the tree does not have; [`Error::NoRoom`] for fewer answers than questions; if the bytes have
-    /// changed, those of [`Image::check`].
+    /// about a node that the tree does not have; [`Error::NoMetresAsked`] with the lowest one for metres, where the
+    /// image has none; [`Error::NoRoom`] for fewer answers than questions; if the bytes have changed, those of
+    /// [`Image::check`].
     pub fn ask_into<'a>(&self, questions: &[Question], answers: &'a mut [Answer]) -> Result<&'a [Answer]> {
         answer_into(self.as_bytes(), questions, answers)
     }
@@ -596,6 +547,36 @@ impl<B: AsRef<[u8]>> Image<B> {
         parents.truncate(nodes);
         Ok(parents)
     }
+
+    /// The metres of each node, in level order; none where the image has no metres, which is not 0 metres. Needs the
+    /// feature `alloc`; without it there is [`metres_of_image`].
+    ///
+    /// [`Question::Metres`] asks for those of one node.
+    ///
+    /// ```
+    /// use parlaqen::{seal, Seal};
+    ///
+    /// let image = Seal::of(&[0, 1, 1]).metres(&[0, 5_000, 8_000]).image()?;
+    /// assert_eq!(image.metres()?, Some(vec![0, 5_000, 8_000]));
+    /// assert_eq!(seal(&[0, 1, 1])?.metres()?, None);
+    /// # Ok::<(), parlaqen::Error>(())
+    /// ```
+    ///
+    /// # Errors
+    ///
+    /// None but, if the bytes have changed, those of [`Image::check`] and [`Error::NoRoom`].
+    #[cfg(feature = "alloc")]
+    pub fn metres(&self) -> Result<Option<Vec<u32>>> {
+        let mut metres = vec![0; self.counts.nodes as usize];
+        match metres_of_image(self.as_bytes(), &mut metres) {
+            Ok(nodes) => {
+                metres.truncate(nodes);
+                Ok(Some(metres))
+            }
+            Err(Error::NoMetres) => Ok(None),
+            Err(refused) => Err(refused),
+        }
+    }
 }
 
 // The following take bytes and no image. A method of the image asks for its bytes once and hands them down, so that all
@@ -637,12 +618,24 @@ fn answer_into<'a>(image: &[u8], questions: &[Question], answers: &'a mut [Answe
     let mut given = [0; MOST_QUESTIONS];
     let room = answers.len().min(given.len());
     let answer = sys::ask(image, numbers[..handed_over].as_flattened(), &mut given[..room]);
-    let (answered, _) = counts(answer, Handed::ImageAndQuestions { bytes: image.len(), questions })?;
+    let answered = counts(answer, Handed::ImageAndQuestions { bytes: image.len(), questions });
+    let (answered, _) = answered.map_err(|refused| or_no_metres(image, questions, refused))?;
     let answered = answers.get_mut(..answered as usize).ok_or(Error::UNLISTED_COUNTS)?;
     for ((answer, question), number) in answered.iter_mut().zip(questions).zip(given) {
         *answer = question.answer(number);
     }
     Ok(answered)
+}
+
+/// The refusal of a list of questions, or that the image has no metres, if that is why: the library has one code for
+/// both.
+fn or_no_metres(image: &[u8], questions: &[Question], refused: Error) -> Error {
+    let Error::NoSuchNodeAsked { question, .. } = refused else { return refused };
+    let asked_for_metres = matches!(question_at(questions, question), Some(Question::Metres(_)));
+    if asked_for_metres && metres_of_image(image, &mut []) == Err(Error::NoMetres) {
+        return Error::NoMetresAsked { question };
+    }
+    refused
 }
 
 impl<B: AsRef<[u8]>> AsRef<[u8]> for Image<B> {

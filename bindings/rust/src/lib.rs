@@ -1,8 +1,9 @@
-//! A sealed store for one tree of up to 65,535 nodes (LOUDS++), and tree strings laid end to end: the nine calls of
+//! A sealed store for one tree of up to 65,535 nodes (LOUDS++), and tree strings laid end to end: the eleven calls of
 //! `include/parlaqen.h` for Rust.
 //!
-//! A parent list is sealed to an [`Image`], which answers by itself: the parent, children and siblings of a [`Node`],
-//! lists of [`Question`]s, and listings. [`TreeString`] and [`Pack`] are what is sent. All of them only hand over to
+//! A parent list, with the metres of each node or without, is sealed to an [`Image`], which answers by itself: the
+//! parent, children and siblings of a [`Node`], lists of [`Question`]s, listings, and metres. [`TreeString`] and
+//! [`Pack`] are what is sent. All of them only hand over to
 //! the library, which makes every check itself: whatever is handed in, the answer is a result or an [`Error`] that says
 //! in words what is wrong and where, and has the library's code and place.
 //!
@@ -38,15 +39,16 @@
 //! # Features
 //!
 //! The crate uses no `std`. The feature `alloc`, which is on by default, has everything that makes the room for its
-//! results itself: [`seal`], [`Image::ask`], [`Image::list`], [`Image::parents`], [`TreeString`] and [`Pack`]. Without
-//! it there are [`Image::seal_in`], [`Image::ask_into`], [`Image::list_in`], and the nine calls of the header in
-//! [`calls`]. Those take lent slices, for which [`size`] has the sizes; a refused call leaves every slice as it was.
+//! results itself: [`seal`], [`Seal::image`], [`Image::ask`], [`Image::list`], [`Image::parents`], [`Image::metres`],
+//! [`TreeString`] and [`Pack`]. Without it there are [`Image::seal_in`], [`Seal::image_in`], [`Image::ask_into`],
+//! [`Image::list_in`], and the eleven calls of the header in [`calls`]. Those take lent slices, for which [`size`] has
+//! the sizes; a refused call leaves every slice as it was.
 //!
 //! # Fields
 //!
 //! Plain records of results, such as [`calls::Counts`], [`Part`] and [`Listed`], have public fields and no rule between
 //! them. Types that keep something true, such as [`Image`], [`Node`], [`Nodes`], [`Listing`], [`TreeString`] and
-//! [`Pack`], have private ones.
+//! [`Pack`], have private ones, and so has [`Seal`], which is made step by step.
 
 #![no_std]
 // Links to what needs `alloc` lead nowhere without it; their names are still right.
@@ -67,6 +69,7 @@ mod image;
 mod listing;
 mod node;
 mod question;
+mod sealing;
 pub mod size;
 #[cfg(feature = "alloc")]
 mod strings;
@@ -74,12 +77,13 @@ mod strings;
 mod sys;
 
 pub use error::{Error, WrongSize};
-#[cfg(feature = "alloc")]
-pub use image::seal;
 pub use image::Image;
 pub use listing::{Listed, Listing};
 pub use node::{Node, Nodes};
 pub use question::{Answer, Question};
+#[cfg(feature = "alloc")]
+pub use sealing::seal;
+pub use sealing::Seal;
 #[cfg(feature = "alloc")]
 pub use strings::{Pack, Part, TreeString};
 
@@ -96,7 +100,7 @@ pub type Result<T> = core::result::Result<T, Error>;
 /// The version of this crate, which is that of the header it binds.
 ///
 /// ```
-/// assert!(parlaqen::VERSION.starts_with("0.3."));
+/// assert!(parlaqen::VERSION.starts_with("0.4."));
 /// ```
 pub const VERSION: &str = env!("CARGO_PKG_VERSION");
 /// The most nodes that a tree has.
@@ -134,9 +138,17 @@ pub const MOST_QUESTIONS: usize = 256;
 /// assert_eq!(parlaqen::size::image_room(1) / parlaqen::BLOCK_BYTES, 5);
 /// ```
 pub const BLOCK_BYTES: usize = 512;
-/// The bytes of the largest image.
+/// The bytes of the largest image without metres.
 ///
 /// ```
-/// assert_eq!(parlaqen::MOST_IMAGE_BYTES, parlaqen::size::image_room(parlaqen::MOST_NODES));
+/// assert_eq!(parlaqen::MOST_TREE_IMAGE_BYTES, parlaqen::size::image_room(parlaqen::MOST_NODES));
 /// ```
-pub const MOST_IMAGE_BYTES: usize = 27_136;
+pub const MOST_TREE_IMAGE_BYTES: usize = 27_136;
+/// The bytes of the largest image, which has metres: no longer one is accepted.
+///
+/// ```
+/// use parlaqen::{size, MOST_IMAGE_BYTES, MOST_NODES};
+///
+/// assert_eq!(MOST_IMAGE_BYTES, size::image_room(MOST_NODES) + size::metres_bytes(MOST_NODES));
+/// ```
+pub const MOST_IMAGE_BYTES: usize = 293_888;

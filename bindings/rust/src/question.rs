@@ -2,8 +2,8 @@ use crate::Node;
 
 /// A question about a node of an image. Its [`Answer`] is a node, or that there is none, unless said otherwise.
 ///
-/// A node that the tree does not have is refused. Any argument is allowed: one that leads to no node has the answer
-/// that there is none.
+/// A node that the tree does not have is refused, and so are metres where the image has none. Any argument is allowed:
+/// one that leads to no node has the answer that there is none.
 ///
 /// ```
 /// use parlaqen::{size, Answer, Image, Node, Question};
@@ -49,6 +49,8 @@ pub enum Question {
         /// How many places to the right, to the left where negative.
         right: i32,
     },
+    /// Kind 11: the answer is the number of metres of the node.
+    Metres(Node),
 }
 
 impl Question {
@@ -74,6 +76,7 @@ impl Question {
             Self::ChildNumber { node, number } => (8, node, number as i32),
             Self::Leaf(node) => (9, node, 0),
             Self::SiblingAt { node, right } => (10, node, right),
+            Self::Metres(node) => (11, node, 0),
         };
         // A node or a child over i32::MAX becomes a negative one. No tree has either, and the library says so of both.
         [kind, node.get() as i32, argument]
@@ -91,14 +94,15 @@ impl Question {
             | Self::ChildRank(node)
             | Self::ChildNumber { node, .. }
             | Self::Leaf(node)
-            | Self::SiblingAt { node, .. } => node,
+            | Self::SiblingAt { node, .. }
+            | Self::Metres(node) => node,
         }
     }
 
     /// The library's answer to this question.
     pub(crate) fn answer(self, number: u32) -> Answer {
         match self {
-            Self::Degree(_) | Self::ChildRank(_) => Answer::Number(number),
+            Self::Degree(_) | Self::ChildRank(_) | Self::Metres(_) => Answer::Number(number),
             Self::Leaf(_) => Answer::Leaf(number != 0),
             Self::Parent(_)
             | Self::FirstChild(_)
@@ -152,7 +156,7 @@ impl Answer {
         }
     }
 
-    /// The number, if the answer is one, which is so for a degree and a child rank.
+    /// The number, if the answer is one, which is so for a degree, a child rank and metres.
     ///
     /// ```
     /// use parlaqen::{Answer, Node};

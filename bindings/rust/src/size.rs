@@ -16,13 +16,13 @@ use crate::BLOCK_BYTES;
 
 /// The bits of R1 or of R0 in a block of the image.
 const BITS_OF_BLOCK: usize = 4000;
-/// The samples in a block of the image.
-const SAMPLES_OF_BLOCK: usize = 126;
+/// The samples in a block of the image, or the metres.
+const WORDS_OF_BLOCK: usize = 126;
 /// The ones from one sample to the next.
 const ONES_OF_SAMPLE: usize = 64;
 
-/// The bytes of the image of a tree, by the two counts of sealing and of the check: its nodes and the runs of ones in
-/// its string, which are one more than it has nodes with children.
+/// The bytes of the image of a tree without metres, by the two counts of sealing and of the check: its nodes and the
+/// runs of ones in its string, which are one more than it has nodes with children.
 ///
 /// [`Counts::image_bytes`](crate::calls::Counts::image_bytes) is the same for counts that are at hand.
 ///
@@ -30,17 +30,17 @@ const ONES_OF_SAMPLE: usize = 64;
 /// use parlaqen::size::image_bytes;
 ///
 /// assert_eq!(image_bytes(7, 4), 2_560);
-/// assert_eq!(image_bytes(65_535, 65_535), parlaqen::MOST_IMAGE_BYTES);
+/// assert_eq!(image_bytes(65_535, 65_535), parlaqen::MOST_TREE_IMAGE_BYTES);
 /// ```
 #[must_use]
 pub const fn image_bytes(nodes: usize, runs_of_ones: usize) -> usize {
     let blocks_of_r1 = nodes.div_ceil(BITS_OF_BLOCK);
     let blocks_of_r0 = nodes.saturating_add(1).div_ceil(BITS_OF_BLOCK);
-    let blocks_of_samples = runs_of_ones.div_ceil(ONES_OF_SAMPLE).div_ceil(SAMPLES_OF_BLOCK);
+    let blocks_of_samples = runs_of_ones.div_ceil(ONES_OF_SAMPLE).div_ceil(WORDS_OF_BLOCK);
     BLOCK_BYTES * (1 + blocks_of_r1 + blocks_of_r0 + 2 * blocks_of_samples)
 }
 
-/// The bytes that are enough for the image of any tree of so many nodes.
+/// The bytes that are enough for the image of any tree of so many nodes without metres.
 ///
 /// ```
 /// use parlaqen::size::image_room;
@@ -51,6 +51,19 @@ pub const fn image_bytes(nodes: usize, runs_of_ones: usize) -> usize {
 #[must_use]
 pub const fn image_room(nodes: usize) -> usize {
     image_bytes(nodes, nodes)
+}
+
+/// The bytes to add to those of an image, or to the room for one, for the metres of so many nodes.
+///
+/// ```
+/// use parlaqen::size::{image_room, metres_bytes};
+///
+/// assert_eq!((metres_bytes(126), metres_bytes(127)), (512, 1_024));
+/// assert_eq!(image_room(65_535) + metres_bytes(65_535), parlaqen::MOST_IMAGE_BYTES);
+/// ```
+#[must_use]
+pub const fn metres_bytes(nodes: usize) -> usize {
+    BLOCK_BYTES.saturating_mul(nodes.div_ceil(WORDS_OF_BLOCK))
 }
 
 /// The bits of the tree string of so many nodes.

@@ -1,4 +1,4 @@
-//! The nine calls as `include/parlaqen.h` declares them, and all of this crate's unsafe code.
+//! The eleven calls as `include/parlaqen.h` declares them, and all of this crate's unsafe code.
 
 #[repr(C)]
 pub(crate) struct Answer {
@@ -21,7 +21,16 @@ mod c {
             room: usize,
         ) -> Answer;
         pub fn plq_image_of_parents(parents: *const u32, n: usize, image: *mut u8, room: usize) -> Answer;
+        pub fn plq_image_with_metres(
+            parents: *const u32,
+            n: usize,
+            metres: *const u32,
+            metres_count: usize,
+            image: *mut u8,
+            room: usize,
+        ) -> Answer;
         pub fn plq_parents_of_image(image: *const u8, nbytes: usize, parents: *mut u32, room: usize) -> Answer;
+        pub fn plq_metres_of_image(image: *const u8, nbytes: usize, metres: *mut u32, room: usize) -> Answer;
         pub fn plq_check_image(image: *const u8, nbytes: usize) -> Answer;
         pub fn plq_ask(
             image: *const u8,
@@ -75,8 +84,23 @@ pub(crate) fn image_of_parents(parents: &[u32], image: &mut [u8]) -> Answer {
     lent!(plq_image_of_parents(parents.as_ptr(), parents.len(), image.as_mut_ptr(), image.len()))
 }
 
+pub(crate) fn image_with_metres(parents: &[u32], metres: &[u32], image: &mut [u8]) -> Answer {
+    lent!(plq_image_with_metres(
+        parents.as_ptr(),
+        parents.len(),
+        metres.as_ptr(),
+        metres.len(),
+        image.as_mut_ptr(),
+        image.len(),
+    ))
+}
+
 pub(crate) fn parents_of_image(image: &[u8], parents: &mut [u32]) -> Answer {
     lent!(plq_parents_of_image(image.as_ptr(), image.len(), parents.as_mut_ptr(), parents.len()))
+}
+
+pub(crate) fn metres_of_image(image: &[u8], metres: &mut [u32]) -> Answer {
+    lent!(plq_metres_of_image(image.as_ptr(), image.len(), metres.as_mut_ptr(), metres.len()))
 }
 
 pub(crate) fn check_image(image: &[u8]) -> Answer {

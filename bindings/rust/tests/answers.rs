@@ -3,14 +3,17 @@
 mod common;
 
 #[cfg(feature = "alloc")]
-use common::{binary, path, star};
-use common::{image_of, image_of_t, T};
-use parlaqen::calls::{ask, check_image, list, parents_of_image, parents_of_string, split, string_of_parents, Counts};
+use common::{binary, metres, path, star};
+use common::{image_of, image_of_t, image_of_t_with_metres, image_with_metres_of, METRES_OF_T, T};
+use parlaqen::calls::{
+    ask, check_image, list, metres_of_image, parents_of_image, parents_of_string, split, string_of_parents, Counts,
+};
 #[cfg(feature = "alloc")]
 use parlaqen::{
-    seal, Listed, Pack, Part, TreeString, BLOCK_BYTES, MOST_BITS, MOST_IMAGE_BYTES, MOST_NODES, MOST_TREES,
+    seal, Listed, Pack, Part, Seal, TreeString, MOST_BITS, MOST_IMAGE_BYTES, MOST_NODES, MOST_TREES,
+    MOST_TREE_IMAGE_BYTES,
 };
-use parlaqen::{Answer, Image, Node, Question, MOST_QUESTIONS};
+use parlaqen::{Answer, Error, Image, Node, Question, BLOCK_BYTES, MOST_QUESTIONS};
 
 /// Trees of several shapes and sizes, the largest included.
 #[cfg(feature = "alloc")]
@@ -46,7 +49,45 @@ fn every_tree_comes_back_from_its_string_and_from_its_image() {
         inner.dedup();
         assert_eq!(image.nodes_with_children() as usize, inner.len() - 1);
         assert_eq!(image.parents().unwrap(), parents);
+        assert_eq!(image.metres().unwrap(), None);
+
+        let metres = metres(parents.len());
+        let with_metres = Seal::of(&parents).metres(&metres).image().unwrap();
+        assert_eq!(Image::check(with_metres.as_bytes().to_vec()).unwrap(), with_metres);
+        assert_ne!(with_metres, image);
+        assert_eq!(with_metres.nodes(), image.nodes());
+        assert_eq!(with_metres.nodes_with_children(), image.nodes_with_children());
+        assert_eq!(with_metres.parents().unwrap(), parents);
+        assert_eq!(with_metres.metres().unwrap(), Some(metres));
+        assert_eq!(Seal::of(&parents).image().unwrap(), image);
     }
+}
+
+/// Of the blocks before the metres only the header differs from that of the image without them.
+#[test]
+fn metres_come_after_the_blocks_of_the_tree() {
+    let (alone, with_metres) = (image_of_t(), image_of_t_with_metres());
+    assert_eq!((alone.len(), with_metres.len()), (5 * BLOCK_BYTES, 6 * BLOCK_BYTES));
+    assert_eq!(alone[BLOCK_BYTES..], with_metres[BLOCK_BYTES..5 * BLOCK_BYTES]);
+    assert_eq!((alone[0], alone[12], with_metres[0], with_metres[12]), (1, 5, 2, 6));
+    let words = with_metres[5 * BLOCK_BYTES..].chunks(4).map(|word| u32::from_le_bytes(word.try_into().unwrap()));
+    assert!(words.take(8).eq(METRES_OF_T.into_iter().chain([0])));
+}
+
+#[test]
+fn no_metres_are_not_zero_metres() {
+    let (alone, zeros) = (image_of_t(), image_with_metres_of(&T, &[0; 7]));
+    let mut metres = [77; 7];
+    assert_eq!(metres_of_image(&alone, &mut metres), Err(Error::NoMetres));
+    assert_eq!(metres, [77; 7]);
+    assert_eq!(metres_of_image(&zeros, &mut metres), Ok(7));
+    assert_eq!(metres, [0; 7]);
+
+    let mut answers = [77];
+    assert_eq!(ask(&alone, &[11, 1, 0], &mut answers), Err(Error::NotAllowed { question: 1 }));
+    assert_eq!(answers, [77]);
+    assert_eq!(ask(&zeros, &[11, 1, 0], &mut answers), Ok(1));
+    assert_eq!(answers, [0]);
 }
 
 #[cfg(feature = "alloc")]
@@ -56,12 +97,19 @@ fn images_are_as_large_as_the_format_says() {
     assert_eq!(blocks(&[0]), 5);
     assert_eq!(blocks(&path(3_999)), 5);
     assert_eq!(blocks(&path(4_000)), 6);
-    assert_eq!(blocks(&path(MOST_NODES as u32)) * BLOCK_BYTES, MOST_IMAGE_BYTES);
+    assert_eq!(blocks(&path(MOST_NODES as u32)) * BLOCK_BYTES, MOST_TREE_IMAGE_BYTES);
+    let with_metres = |parents: &[u32]| Seal::of(parents).metres(&metres(parents.len())).image().unwrap().into_bytes();
+    let blocks = |parents: &[u32]| with_metres(parents).len() / BLOCK_BYTES;
+    assert_eq!(blocks(&[0]), 6);
+    assert_eq!(blocks(&star(126)), 6);
+    assert_eq!(blocks(&star(127)), 7);
+    assert_eq!(blocks(&star(10_962)), 96);
+    assert_eq!(with_metres(&path(MOST_NODES as u32)).len(), MOST_IMAGE_BYTES);
 }
 
 #[test]
-fn all_ten_kinds_answer_for_every_node_of_t() {
-    let image = Image::check(image_of_t()).unwrap();
+fn all_eleven_kinds_answer_for_every_node_of_t() {
+    let image = Image::check(image_of_t_with_metres()).unwrap();
     let of_each = |question: fn(Node) -> Question| {
         let questions: Vec<Question> = image.all_nodes().map(question).collect();
         let mut answers = [Answer::default(); 7];
@@ -78,6 +126,7 @@ fn all_ten_kinds_answer_for_every_node_of_t() {
     assert_eq!(of_each(Question::Leaf), [0, 0, 1, 0, 1, 1, 1].map(|leaf| Answer::Leaf(leaf == 1)));
     assert_eq!(of_each(|node| Question::ChildNumber { node, number: 2 }), nodes([3, 6, 0, 0, 0, 0, 0]));
     assert_eq!(of_each(|node| Question::SiblingAt { node, right: -2 }), nodes([0, 0, 0, 2, 0, 0, 0]));
+    assert_eq!(of_each(Question::Metres), METRES_OF_T.map(Answer::Number));
 }
 
 #[test]
@@ -124,6 +173,10 @@ fn any_number_of_questions_is_answered() {
         let expected = parents.iter().take(count).map(|parent| Answer::Node(Node::new(*parent)));
         assert!(answers.into_iter().eq(expected), "{count} questions");
     }
+    let metres = metres(1_000);
+    let image = Seal::of(&parents).metres(&metres).image().unwrap();
+    let questions: Vec<Question> = image.all_nodes().map(Question::Metres).collect();
+    assert!(image.ask(&questions).unwrap().into_iter().eq(metres.into_iter().map(Answer::Number)));
 }
 
 #[cfg(feature = "alloc")]
@@ -206,6 +259,9 @@ fn what_lies_after_the_needed_room_stays() {
     parents = [77; 9];
     parents_of_image(&image_of_t(), &mut parents).unwrap();
     assert_eq!(parents[7..], [77, 77]);
+    let mut metres = [77; 9];
+    metres_of_image(&image_of_t_with_metres(), &mut metres).unwrap();
+    assert_eq!((&metres[..7], &metres[7..]), (&METRES_OF_T[..], &[77, 77][..]));
 
     let (mut starts, mut sizes) = ([77; 3], [88; 4]);
     split(&bytes[..2], 15, 1, &mut starts, &mut sizes).unwrap();
@@ -215,6 +271,7 @@ fn what_lies_after_the_needed_room_stays() {
     assert_eq!(list(&image_of_t(), 4, &mut pairs), Ok(2));
     assert_eq!(pairs, [4, 0, 7, 1, 77]);
     assert_eq!(check_image(&image_of_t()), Ok(Counts { nodes: 7, runs_of_ones: 4 }));
+    assert_eq!(check_image(&image_of_t_with_metres()), Ok(Counts { nodes: 7, runs_of_ones: 4 }));
 }
 
 #[test]

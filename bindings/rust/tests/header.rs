@@ -3,10 +3,12 @@
 mod common;
 
 use common::{binary, path, star};
-use parlaqen::calls::{check_image, image_of_parents, list, string_of_parents, Counts};
+use parlaqen::calls::{
+    check_image, image_of_parents, image_with_metres, list, metres_of_image, string_of_parents, Counts,
+};
 use parlaqen::{
     size, Error, Node, Question, WrongSize, BLOCK_BYTES, MOST_BITS, MOST_IMAGE_BYTES, MOST_NODES, MOST_QUESTIONS,
-    MOST_TREES, VERSION,
+    MOST_TREES, MOST_TREE_IMAGE_BYTES, VERSION,
 };
 
 const HEADER: &str = include_str!("../../../include/parlaqen.h");
@@ -131,6 +133,7 @@ fn limits() {
     assert_eq!(header("PLQ_MOST_TREES"), MOST_TREES);
     assert_eq!(header("PLQ_MOST_QUESTIONS"), MOST_QUESTIONS);
     assert_eq!(header("PLQ_BLOCK_BYTES"), BLOCK_BYTES);
+    assert_eq!(header("PLQ_MOST_TREE_IMAGE_BYTES"), MOST_TREE_IMAGE_BYTES);
     assert_eq!(header("PLQ_MOST_IMAGE_BYTES"), MOST_IMAGE_BYTES);
 }
 
@@ -156,6 +159,7 @@ fn kinds() {
         ("PLQ_CHILD_NUMBER", Question::ChildNumber { node, number: 1 }),
         ("PLQ_LEAF", Question::Leaf(node)),
         ("PLQ_SIBLING_AT", Question::SiblingAt { node, right: 1 }),
+        ("PLQ_METRES", Question::Metres(node)),
     ] {
         assert_eq!(header(name), question.numbers()[0] as usize, "{name}");
     }
@@ -180,6 +184,8 @@ fn codes() {
         ("PLQ_NOT_ALLOWED", Error::NotAllowed { question: 1 }),
         ("PLQ_NOT_ALLOWED", Error::NoSuchNode { node: 1 }),
         ("PLQ_NOT_ALLOWED", Error::NoSuchNodeAsked { question: 1, node: 1 }),
+        ("PLQ_NOT_ALLOWED", Error::NoMetres),
+        ("PLQ_NOT_ALLOWED", Error::NoMetresAsked { question: 1 }),
         ("PLQ_TOO_DEEP", Error::TooDeep { node: 1 }),
         ("PLQ_OTHER_TREES", Error::OtherTrees { found: 1, given: 2 }),
         ("PLQ_OTHER_VERSION", Error::OtherVersion),
@@ -200,7 +206,8 @@ fn codes() {
 }
 
 /// Numbers of nodes at which some size changes, and their neighbours.
-const NODES: [u32; 14] = [1, 2, 3, 3_999, 4_000, 4_001, 7_999, 8_000, 8_001, 8_063, 8_064, 8_065, 65_534, 65_535];
+const NODES: [u32; 17] =
+    [1, 2, 3, 125, 126, 127, 3_999, 4_000, 4_001, 7_999, 8_000, 8_001, 8_063, 8_064, 8_065, 65_534, 65_535];
 
 #[test]
 fn sizes_are_those_of_the_macros() {
@@ -210,14 +217,17 @@ fn sizes_are_those_of_the_macros() {
             assert_eq!(size::image_bytes(n, m), value("PLQ_IMAGE_BYTES", &[n, m]), "n {n}, m {m}");
             let counts = Counts { nodes, runs_of_ones: m as u32 };
             assert_eq!(counts.image_bytes(), size::image_bytes(n, m));
+            assert_eq!(counts.image_bytes_with_metres(), size::image_bytes(n, m) + size::metres_bytes(n));
         }
         assert_eq!(size::image_room(n), value("PLQ_IMAGE_ROOM", &[n]));
+        assert_eq!(size::metres_bytes(n), value("PLQ_METRES_BYTES", &[n]));
         assert_eq!(size::string_bits(n), value("PLQ_STRING_BITS", &[n]));
         assert_eq!(size::string_bytes(n), value("PLQ_STRING_BYTES", &[n]));
         assert_eq!(size::bytes_of_bits(n), value("PLQ_BYTES_OF_BITS", &[n]));
         assert_eq!(size::listing_numbers(n), value("PLQ_LISTING_NUMBERS", &[n]));
     }
-    assert_eq!(size::image_room(MOST_NODES), MOST_IMAGE_BYTES);
+    assert_eq!(size::image_room(MOST_NODES), MOST_TREE_IMAGE_BYTES);
+    assert_eq!(size::image_room(MOST_NODES) + size::metres_bytes(MOST_NODES), MOST_IMAGE_BYTES);
     assert_eq!(size::string_bits(MOST_NODES), MOST_BITS);
     assert_eq!(size::bytes_of_bits(0), 0);
 }
@@ -235,6 +245,19 @@ fn sizes_are_those_of_the_library() {
             assert_eq!(check_image(&image[..bytes]), Ok(counts));
             assert_eq!(image_of_parents(&parents, &mut image[..bytes]), Ok(counts));
             assert_eq!(image_of_parents(&parents, &mut image[..bytes - 1]), Err(Error::NoRoom));
+
+            let metres = common::metres(n);
+            let mut image = vec![0xEE; size::image_room(n) + size::metres_bytes(n) + 1];
+            assert_eq!(image_with_metres(&parents, &metres, &mut image), Ok(counts));
+            let bytes = counts.image_bytes_with_metres();
+            assert!(image[bytes..].iter().all(|byte| *byte == 0xEE));
+            assert_eq!(check_image(&image[..bytes]), Ok(counts));
+            assert_eq!(image_with_metres(&parents, &metres, &mut image[..bytes]), Ok(counts));
+            assert_eq!(image_with_metres(&parents, &metres, &mut image[..bytes - 1]), Err(Error::NoRoom));
+            let mut back = vec![0; n];
+            assert_eq!(metres_of_image(&image[..bytes], &mut back), Ok(n));
+            assert_eq!(back, metres);
+            assert_eq!(metres_of_image(&image[..bytes], &mut back[..n - 1]), Err(Error::NoRoom));
 
             let mut string = vec![0; size::string_bytes(n)];
             assert_eq!(string_of_parents(&parents, &mut string), Ok(size::string_bits(n)));
@@ -261,6 +284,7 @@ fn sizes_are_those_of_the_library() {
 fn no_size_wraps_to_a_small_one() {
     for wrong in [usize::MAX, usize::MAX / 2 + 1] {
         assert!(size::image_room(wrong) > MOST_IMAGE_BYTES);
+        assert!(size::metres_bytes(wrong) > MOST_IMAGE_BYTES);
         assert!(size::string_bits(wrong) > MOST_BITS);
         assert!(size::string_bytes(wrong) > MOST_BITS);
         assert!(size::bytes_of_bits(wrong) > MOST_BITS);

@@ -8,10 +8,10 @@ use std::rc::Rc;
 use std::sync::Arc;
 use std::thread;
 
-use common::{image_of, image_of_t, path, random, T};
+use common::{image_of, image_of_t, image_of_t_with_metres, image_with_metres_of, metres, path, random, T};
 #[cfg(feature = "alloc")]
 use parlaqen::{seal, Pack, TreeString};
-use parlaqen::{size, Answer, Error, Image, Listing, Node, Nodes, Question, BLOCK_BYTES, MOST_IMAGE_BYTES};
+use parlaqen::{size, Answer, Error, Image, Listing, Node, Nodes, Question, Seal, BLOCK_BYTES, MOST_IMAGE_BYTES};
 
 fn node(number: u32) -> Node {
     Node::new(number).unwrap()
@@ -78,6 +78,17 @@ fn an_image_sealed_in_a_lent_buffer_is_over_its_used_part() {
         assert!(room[used..].iter().all(|byte| *byte == 0xEE));
         #[cfg(feature = "alloc")]
         assert_eq!(seal(&parents).unwrap().as_bytes(), &room[..used]);
+
+        let metres = metres(parents.len());
+        let mut room = vec![0xEE; MOST_IMAGE_BYTES + 1];
+        let sealing = Seal::of(&parents).metres(&metres);
+        let image = sealing.image_in(&mut room).unwrap();
+        assert_eq!(image.as_bytes(), image_with_metres_of(&parents, &metres));
+        assert_eq!(image, Image::check(image.as_bytes()).unwrap());
+        let used = image.into_bytes().len();
+        assert!(room[used..].iter().all(|byte| *byte == 0xEE));
+        #[cfg(feature = "alloc")]
+        assert_eq!(sealing.image().unwrap().as_bytes(), &room[..used]);
     }
     /// What needs no bytes is there for an image of anything.
     const fn nodes<B>(image: &Image<B>) -> (u32, u32, bool) {
@@ -105,7 +116,15 @@ impl AsRef<[u8]> for Changing {
 fn bytes_that_change_after_the_check_do_no_harm() {
     let mut damaged = image_of_t();
     damaged[2 * BLOCK_BYTES] ^= 4;
-    let images = Rc::from([image_of_t(), image_of(&[0, 1, 2]), damaged, vec![], image_of(&path(65_535))]);
+    let images = Rc::from([
+        image_of_t(),
+        image_of(&[0, 1, 2]),
+        damaged,
+        vec![],
+        image_of(&path(65_535)),
+        image_of_t_with_metres(),
+        image_with_metres_of(&path(65_535), &metres(65_535)),
+    ]);
     let chosen = Rc::new(Cell::new(0));
     let image = Image::check(Changing { images, chosen: chosen.clone() }).unwrap();
     assert_eq!(image.parent(node(3)).unwrap(), Node::new(1));
@@ -135,7 +154,23 @@ fn bytes_that_change_after_the_check_do_no_harm() {
     assert_eq!(image.parent(node(65_535)).unwrap(), Node::new(65_534));
     assert_eq!(image.list_in(node(65_000), &mut [0; 14]).unwrap_err(), Error::TooDeep { node: 65_064 });
     #[cfg(feature = "alloc")]
-    assert_eq!(image.parents(), Err(Error::NoRoom));
+    assert_eq!((image.parents(), image.metres()), (Err(Error::NoRoom), Ok(None)));
+
+    let asked = [Question::Metres(node(7))];
+    let mut answers = [Answer::default()];
+    assert_eq!(image.ask_into(&asked, &mut answers), Err(Error::NoMetresAsked { question: 1 }));
+    chosen.set(5);
+    assert_eq!(image.ask_into(&asked, &mut answers), Ok(&[Answer::Number(70)][..]));
+    #[cfg(feature = "alloc")]
+    assert_eq!(image.metres(), Ok(Some(common::METRES_OF_T.to_vec())));
+
+    chosen.set(6);
+    #[cfg(feature = "alloc")]
+    assert_eq!(image.metres(), Err(Error::NoRoom));
+    chosen.set(2);
+    assert_eq!(image.ask_into(&asked, &mut answers), Err(refused));
+    #[cfg(feature = "alloc")]
+    assert_eq!(image.metres(), Err(refused));
 }
 
 /// Bytes that are other ones at every call: those of the images, in turn.
@@ -158,7 +193,8 @@ fn every_method_asks_for_its_bytes_once() {
     let mut damaged = image_of_t();
     damaged[2 * BLOCK_BYTES] ^= 4;
     let calls = Rc::new(Cell::new(0));
-    let images = vec![image_of(&[0, 1, 1, 1, 1]), image_of(&[0, 1, 2, 2, 2]), damaged];
+    let star_with_metres = image_with_metres_of(&[0, 1, 1, 1, 1], &[9, 8, 7, 6, 5]);
+    let images = vec![star_with_metres.clone(), image_of(&[0, 1, 2, 2, 2]), damaged];
     let refused = Error::WrongSums { block: 2 };
     let image = Image::check(Turning { images, calls: calls.clone() }).unwrap();
     assert_eq!(calls.get(), 1);
@@ -200,13 +236,21 @@ fn every_method_asks_for_its_bytes_once() {
         let listed = |listing: Listing<Vec<u32>>| listing.map(|listed| listed.depth).collect::<Vec<u32>>();
         in_turn!(image.list(Node::ROOT).map(listed), vec![0, 1, 1, 1, 1], vec![0, 1, 2, 2, 2]);
         in_turn!(image.parents(), vec![0, 1, 1, 1, 1], vec![0, 1, 2, 2, 2]);
+        in_turn!(image.metres(), Some(vec![9, 8, 7, 6, 5]), None);
+    }
+    let asked = [Question::Metres(three)];
+    for (turn, expected) in [Ok(7), Err(Error::NoMetresAsked { question: 1 }), Err(refused)].into_iter().enumerate() {
+        calls.set(turn);
+        let answered = image.ask_into(&asked, &mut [Answer::default()]).map(<[Answer]>::to_vec);
+        assert_eq!(answered, expected.map(|metres| vec![Answer::Number(metres)]), "image {turn}");
+        assert_eq!(calls.get(), turn + 1);
     }
 
     calls.set(0);
-    assert_eq!(format!("{image:?}"), "Image { nodes: 5, nodes_with_children: 1, bytes: 2560, .. }");
+    assert_eq!(format!("{image:?}"), "Image { nodes: 5, nodes_with_children: 1, bytes: 3072, .. }");
     assert_eq!(calls.get(), 1);
     calls.set(0);
-    let star = Image::check(image_of(&[0, 1, 1, 1, 1])).unwrap();
+    let star = Image::check(star_with_metres).unwrap();
     assert!(image == star && calls.get() == 1);
     assert!(image != star && calls.get() == 2);
 
@@ -230,6 +274,7 @@ fn everything_goes_to_other_threads() {
     sent::<Error>();
     sent::<Question>();
     sent::<Answer>();
+    sent::<Seal<'static>>();
     #[cfg(feature = "alloc")]
     {
         sent::<TreeString>();
@@ -239,18 +284,21 @@ fn everything_goes_to_other_threads() {
 
 #[test]
 fn sixteen_threads_ask_one_image() {
-    let parents = random(3_000, 5);
-    let image = Image::check(image_of(&parents)).unwrap();
+    let (parents, metres) = (random(3_000, 5), metres(3_000));
+    let image = Image::check(image_with_metres_of(&parents, &metres)).unwrap();
     thread::scope(|scope| {
         for thread in 0..16 {
-            let (image, parents) = (&image, &parents);
+            let (image, parents, metres) = (&image, &parents, &metres);
             scope.spawn(move || {
                 for node in image.all_nodes().skip(thread).step_by(16) {
                     assert_eq!(image.parent(node).unwrap(), Node::new(parents[node.index()]));
                     assert!(image.siblings(node).unwrap().contains(node));
+                    let mut answers = [Answer::default()];
+                    image.ask_into(&[Question::Metres(node)], &mut answers).unwrap();
+                    assert_eq!(answers, [Answer::Number(metres[node.index()])]);
                 }
                 #[cfg(feature = "alloc")]
-                assert_eq!(image.parents().unwrap(), *parents);
+                assert_eq!((image.parents(), image.metres()), (Ok(parents.clone()), Ok(Some(metres.clone()))));
             });
         }
     });
@@ -258,8 +306,8 @@ fn sixteen_threads_ask_one_image() {
 
 #[test]
 fn what_is_printed_for_programmers_is_short() {
-    let largest = Image::check(image_of(&path(65_535))).unwrap();
-    assert_eq!(format!("{largest:?}"), "Image { nodes: 65535, nodes_with_children: 65534, bytes: 27136, .. }");
+    let largest = Image::check(image_with_metres_of(&path(65_535), &metres(65_535))).unwrap();
+    assert_eq!(format!("{largest:?}"), "Image { nodes: 65535, nodes_with_children: 65534, bytes: 293888, .. }");
     let image = Image::check(image_of_t()).unwrap();
     assert_eq!(format!("{image:?}"), "Image { nodes: 7, nodes_with_children: 3, bytes: 2560, .. }");
     assert_eq!(format!("{:?}", image.children(Node::ROOT).unwrap()), "Nodes(2..5)");
@@ -267,6 +315,10 @@ fn what_is_printed_for_programmers_is_short() {
     let mut listing = image.list_in(Node::ROOT, &mut numbers).unwrap();
     listing.next();
     assert_eq!(format!("{listing:?}"), "Listing { nodes_left: 6, .. }");
+    let (parents, metres) = (path(65_535), metres(65_535));
+    let sealing = Seal::of(&parents);
+    assert_eq!(format!("{sealing:?}"), "Seal { nodes: 65535, metres: None, .. }");
+    assert_eq!(format!("{:?}", sealing.metres(&metres)), "Seal { nodes: 65535, metres: Some(65535), .. }");
     #[cfg(feature = "alloc")]
     {
         let mut pack = Pack::new();

@@ -2,15 +2,16 @@
 
 mod common;
 
-use common::{image_of, image_of_t, path, T};
+use common::{image_of, image_of_t, image_of_t_with_metres, path, METRES_OF_T, T};
 use parlaqen::calls::{
-    ask, check_image, image_of_parents, join, list, parents_of_image, parents_of_string, split, string_of_parents,
+    ask, check_image, image_of_parents, image_with_metres, join, list, metres_of_image, parents_of_image,
+    parents_of_string, split, string_of_parents,
 };
 #[cfg(feature = "alloc")]
 use parlaqen::{seal, Pack, TreeString};
 use parlaqen::{
-    Answer, Error, Image, Node, Question, Result, WrongSize, BLOCK_BYTES, MOST_BITS, MOST_IMAGE_BYTES, MOST_NODES,
-    MOST_QUESTIONS, MOST_TREES,
+    Answer, Error, Image, Node, Question, Result, Seal, WrongSize, BLOCK_BYTES, MOST_BITS, MOST_IMAGE_BYTES,
+    MOST_NODES, MOST_QUESTIONS, MOST_TREES,
 };
 
 /// Lends `room` elements of `pattern` to a call that is to be refused, and sees that none of them changed.
@@ -30,6 +31,11 @@ fn wrong_nodes(nodes: usize) -> Error {
     Error::WrongSize(WrongSize::Nodes { nodes })
 }
 
+/// The refusal of metres that are not as many as the nodes.
+fn wrong_metres(metres: usize, nodes: usize) -> Error {
+    Error::WrongSize(WrongSize::Metres { metres, nodes })
+}
+
 /// Makes the two sums of every block right again after something in it was changed.
 fn mend_sums(image: &mut [u8]) {
     for (number, block) in image.chunks_exact_mut(BLOCK_BYTES).enumerate() {
@@ -44,40 +50,60 @@ fn mend_sums(image: &mut [u8]) {
     }
 }
 
+/// A byte of an image, another value for it, and the refusal.
+type Fault = (usize, u8, Error);
+
+const fn at(block: usize, byte: usize) -> usize {
+    BLOCK_BYTES * block + byte
+}
+
 /// Bytes of T's image, each with another value that leaves it no image once the sums are right again, and the refusal.
 /// None of them makes right what another makes wrong.
-const FAULTS: [(usize, u8, Error); 21] = {
-    const fn at(block: usize, byte: usize) -> usize {
-        BLOCK_BYTES * block + byte
-    }
-    [
-        (at(0, 0), 0, Error::OtherVersion),
-        (at(0, 0), 2, Error::OtherVersion),
-        (at(0, 3), 1, Error::OtherVersion),
-        (at(0, 4), 0, Error::WrongHeader), // no node
-        (at(0, 6), 1, Error::WrongHeader), // 65,543 nodes
-        (at(0, 8), 1, Error::WrongHeader), // no node with children
-        (at(0, 8), 9, Error::WrongHeader), // more nodes with children than there are nodes
-        (at(0, 12), 6, Error::WrongHeader),
-        (at(0, 16), 1, Error::WrongHeader),
-        (at(0, 503), 1, Error::WrongHeader),
-        (at(0, 4), 8, Error::WrongStrings { block: 1 }), // a node more than there are bits in the strings
-        (at(0, 8), 3, Error::WrongStrings { block: 1 }), // a one fewer
-        (at(1, 4), 0x69, Error::WrongStrings { block: 1 }), // R1 with its least significant bit first
-        (at(2, 4), 0x8B, Error::WrongStrings { block: 1 }), // a node that would be its own parent
-        (at(1, 0), 1, Error::WrongCounts { block: 1 }),
-        (at(1, 4), 0x97, Error::WrongCounts { block: 1 }), // the bit after R1
-        (at(2, 503), 1, Error::WrongCounts { block: 2 }),
-        (at(3, 4), 1, Error::WrongCounts { block: 3 }), // a second sample
-        (at(4, 503), 1, Error::WrongCounts { block: 4 }),
-        (at(3, 0), 0, Error::WrongSamples { block: 3 }),
-        (at(4, 0), 2, Error::WrongSamples { block: 4 }),
-    ]
-};
+const FAULTS: [Fault; 22] = [
+    (at(0, 0), 0, Error::OtherVersion),
+    (at(0, 0), 3, Error::OtherVersion),
+    (at(0, 3), 1, Error::OtherVersion),
+    (at(0, 0), 2, Error::WrongHeader), // metres, but no block for them
+    (at(0, 4), 0, Error::WrongHeader), // no node
+    (at(0, 6), 1, Error::WrongHeader), // 65,543 nodes
+    (at(0, 8), 1, Error::WrongHeader), // no node with children
+    (at(0, 8), 9, Error::WrongHeader), // more nodes with children than there are nodes
+    (at(0, 12), 6, Error::WrongHeader),
+    (at(0, 16), 1, Error::WrongHeader),
+    (at(0, 503), 1, Error::WrongHeader),
+    (at(0, 4), 8, Error::WrongStrings { block: 1 }), // a node more than there are bits in the strings
+    (at(0, 8), 3, Error::WrongStrings { block: 1 }), // a one fewer
+    (at(1, 4), 0x69, Error::WrongStrings { block: 1 }), // R1 with its least significant bit first
+    (at(2, 4), 0x8B, Error::WrongStrings { block: 1 }), // a node that would be its own parent
+    (at(1, 0), 1, Error::WrongCounts { block: 1 }),
+    (at(1, 4), 0x97, Error::WrongCounts { block: 1 }), // the bit after R1
+    (at(2, 503), 1, Error::WrongCounts { block: 2 }),
+    (at(3, 4), 1, Error::WrongCounts { block: 3 }), // a second sample
+    (at(4, 503), 1, Error::WrongCounts { block: 4 }),
+    (at(3, 0), 0, Error::WrongSamples { block: 3 }),
+    (at(4, 0), 2, Error::WrongSamples { block: 4 }),
+];
 
-/// T's image with some of these bytes changed, and the sums made right again.
-fn with_faults(faults: &[(usize, u8, Error)]) -> Vec<u8> {
-    let mut image = image_of_t();
+/// The same of T's image with metres, which are never wrong themselves.
+const FAULTS_WITH_METRES: [Fault; 14] = [
+    (at(0, 0), 0, Error::OtherVersion),
+    (at(0, 0), 3, Error::OtherVersion),
+    (at(0, 3), 1, Error::OtherVersion),
+    (at(0, 0), 1, Error::WrongHeader),   // no metres, but a block for them
+    (at(0, 4), 127, Error::WrongHeader), // two blocks of metres
+    (at(0, 12), 5, Error::WrongHeader),
+    (at(0, 13), 1, Error::WrongHeader), // 262 blocks
+    (at(0, 503), 1, Error::WrongHeader),
+    (at(0, 4), 8, Error::WrongStrings { block: 1 }),
+    (at(2, 4), 0x8B, Error::WrongStrings { block: 1 }),
+    (at(4, 503), 1, Error::WrongCounts { block: 4 }),
+    (at(5, 28), 1, Error::WrongCounts { block: 5 }), // the metres of an eighth node
+    (at(5, 503), 1, Error::WrongCounts { block: 5 }),
+    (at(4, 0), 2, Error::WrongSamples { block: 4 }),
+];
+
+/// An image with some of its bytes changed, and the sums made right again.
+fn with_faults(mut image: Vec<u8>, faults: &[Fault]) -> Vec<u8> {
     for (at, byte, _) in faults {
         image[*at] = *byte;
     }
@@ -100,9 +126,11 @@ fn bad_images() -> Vec<(Vec<u8>, Error)> {
         (with(|image| image.truncate(4 * BLOCK_BYTES)), wrong_blocks(4)),
         (with(|image| image.push(0)), Error::WrongSize(WrongSize::ImageBytes { bytes: 2_561 })),
         (with(|image| image.truncate(1)), Error::WrongSize(WrongSize::ImageBytes { bytes: 1 })),
-        (vec![0; MOST_IMAGE_BYTES - 1], Error::WrongSize(WrongSize::ImageBytes { bytes: 27_135 })),
-        (vec![0; MOST_IMAGE_BYTES + 1], too_long(27_137)),
-        (vec![0; MOST_IMAGE_BYTES + BLOCK_BYTES], too_long(27_648)),
+        (vec![0; MOST_IMAGE_BYTES - 1], Error::WrongSize(WrongSize::ImageBytes { bytes: 293_887 })),
+        (vec![0; MOST_IMAGE_BYTES + 1], too_long(293_889)),
+        (vec![0; MOST_IMAGE_BYTES + BLOCK_BYTES], too_long(294_400)),
+        (vec![0; MOST_IMAGE_BYTES], Error::WrongSums { block: 1 }),
+        (image_of_t_with_metres()[..5 * BLOCK_BYTES].to_vec(), Error::WrongHeader),
         (with(|image| image[4] ^= 1), Error::WrongSums { block: 0 }),
         (with(|image| image[2 * BLOCK_BYTES - 1] ^= 0x80), Error::WrongSums { block: 1 }),
         (
@@ -120,7 +148,8 @@ fn bad_images() -> Vec<(Vec<u8>, Error)> {
             Error::WrongHeader,
         ),
     ];
-    images.extend(FAULTS.map(|fault| (with_faults(&[fault]), fault.2)));
+    images.extend(FAULTS.map(|fault| (with_faults(image_of_t(), &[fault]), fault.2)));
+    images.extend(FAULTS_WITH_METRES.map(|fault| (with_faults(image_of_t_with_metres(), &[fault]), fault.2)));
     images
 }
 
@@ -161,6 +190,30 @@ fn image_of_parents_refuses() {
 }
 
 #[test]
+fn image_with_metres_refuses() {
+    let make = |parents: &[u32], metres: &[u32], room| {
+        let by_builder = refused(room, 0xA5, |image| {
+            Seal::of(parents).metres(metres).image_in(image).map(|image| image.into_bytes().len())
+        });
+        let by_call = refused(room, 0xA5, |image| image_with_metres(parents, metres, image));
+        assert_eq!(by_builder, by_call);
+        #[cfg(feature = "alloc")]
+        assert!(by_call == Error::NoRoom || Seal::of(parents).metres(metres).image() == Err(by_call));
+        by_call
+    };
+    assert_eq!(make(&[], &[], MOST_IMAGE_BYTES), wrong_nodes(0));
+    assert_eq!(make(&[0; MOST_NODES + 1], &[0; MOST_NODES + 1], MOST_IMAGE_BYTES), wrong_nodes(65_536));
+    assert_eq!(make(&T, &[], MOST_IMAGE_BYTES), wrong_metres(0, 7));
+    assert_eq!(make(&T, &METRES_OF_T[..6], MOST_IMAGE_BYTES), wrong_metres(6, 7));
+    assert_eq!(make(&T, &[0; 8], MOST_IMAGE_BYTES), wrong_metres(8, 7));
+    // the lengths are looked at before the numbers
+    assert_eq!(make(&[0, 1, 3], &[0; 2], MOST_IMAGE_BYTES), wrong_metres(2, 3));
+    assert_eq!(make(&[0, 1, 3], &[0; 3], MOST_IMAGE_BYTES), Error::NotParents { entry: 3 });
+    assert_eq!(make(&T, &METRES_OF_T, 6 * BLOCK_BYTES - 1), Error::NoRoom);
+    assert_eq!(make(&T, &METRES_OF_T, 0), Error::NoRoom);
+}
+
+#[test]
 fn sealing_in_a_lent_buffer_refuses() {
     let make = |parents: &[u32], room| {
         refused(room, 0xA5, |image| Image::seal_in(parents, image).map(|image| image.into_bytes().len()))
@@ -185,6 +238,7 @@ fn every_reading_of_an_image_refuses_what_is_none() {
         assert_eq!(check_image(&image), Err(error));
         assert_eq!(Image::check(&image), Err(error));
         assert_eq!(refused(9, 77, |parents| parents_of_image(&image, parents)), error);
+        assert_eq!(refused(9, 77, |metres| metres_of_image(&image, metres)), error);
         assert_eq!(refused(9, 77, |answers| ask(&image, &[1, 1, 0], answers)), error);
         assert_eq!(refused(18, 77, |pairs| list(&image, 1, pairs)), error);
     }
@@ -192,24 +246,40 @@ fn every_reading_of_an_image_refuses_what_is_none() {
 
 #[test]
 fn of_several_faults_the_lowest_code_is_given_and_then_the_lowest_block() {
-    for (number, one) in FAULTS.into_iter().enumerate() {
-        for other in FAULTS.into_iter().skip(number + 1).filter(|other| other.0 != one.0) {
-            let first = if (other.2.code(), other.2.place()) < (one.2.code(), one.2.place()) { other } else { one };
-            assert_eq!(check_image(&with_faults(&[one, other])), Err(first.2), "{one:?}, {other:?}");
+    for (image, faults) in [(image_of_t(), &FAULTS[..]), (image_of_t_with_metres(), &FAULTS_WITH_METRES)] {
+        for (number, one) in faults.iter().enumerate() {
+            for other in faults[number + 1..].iter().filter(|other| other.0 != one.0) {
+                let first = if (other.2.code(), other.2.place()) < (one.2.code(), one.2.place()) { other } else { one };
+                let checked = check_image(&with_faults(image.clone(), &[*one, *other]));
+                assert_eq!(checked, Err(first.2), "{one:?}, {other:?}");
+            }
         }
-    }
-    // wrong sums go before all of them, in whichever block
-    for fault in FAULTS {
-        let mut image = with_faults(&[fault]);
-        image[5 * BLOCK_BYTES - 1] ^= 1;
-        assert_eq!(check_image(&image), Err(Error::WrongSums { block: 4 }));
+        // wrong sums go before all of them, in whichever block
+        for fault in faults {
+            let mut image = with_faults(image.clone(), &[*fault]);
+            image[5 * BLOCK_BYTES - 1] ^= 1;
+            assert_eq!(check_image(&image), Err(Error::WrongSums { block: 4 }));
+        }
     }
 }
 
 #[test]
 fn parents_of_image_refuses() {
-    let image = image_of_t();
-    assert_eq!(refused(6, 77, |parents| parents_of_image(&image, parents)), Error::NoRoom);
+    for image in [image_of_t(), image_of_t_with_metres()] {
+        assert_eq!(refused(6, 77, |parents| parents_of_image(&image, parents)), Error::NoRoom);
+    }
+}
+
+#[test]
+fn metres_of_image_refuses() {
+    let image = image_of_t_with_metres();
+    assert_eq!(refused(6, 77, |metres| metres_of_image(&image, metres)), Error::NoRoom);
+    // where there are none that is said, whatever the room is
+    for room in [0, 6, 7, 9] {
+        let error = refused(room, 77, |metres| metres_of_image(&image_of_t(), metres));
+        assert_eq!(error, Error::NoMetres);
+        assert_eq!((error.code(), error.place()), (8, 1));
+    }
 }
 
 #[test]
@@ -220,15 +290,23 @@ fn ask_refuses() {
     let too_many = Error::WrongSize(WrongSize::Questions { questions: 257 });
     assert_eq!(asked(&[1; 3 * (MOST_QUESTIONS + 1)], 300), too_many);
     assert_eq!(asked(&[0, 1, 0], 9), Error::NotAllowed { question: 1 });
-    assert_eq!(asked(&[1, 1, 0, 11, 1, 0], 9), Error::NotAllowed { question: 2 });
+    assert_eq!(asked(&[1, 1, 0, 11, 1, 0], 9), Error::NotAllowed { question: 2 }); // it has no metres
+    assert_eq!(asked(&[1, 1, 0, 12, 1, 0], 9), Error::NotAllowed { question: 2 });
     assert_eq!(asked(&[1, 1, 0, 1, 8, 0], 9), Error::NotAllowed { question: 2 });
     assert_eq!(asked(&[1, -1, 0], 9), Error::NotAllowed { question: 1 });
     assert_eq!(asked(&[1, 1, 1], 9), Error::NotAllowed { question: 1 });
     assert_eq!(asked(&[1, 1, 0, 1, 2, 0], 1), Error::NoRoom);
+
+    let image = image_of_t_with_metres();
+    let asked = |questions: &[i32], room| refused(room, 77, |answers| ask(&image, questions, answers));
+    assert_eq!(asked(&[11, 1, 0, 12, 1, 0], 9), Error::NotAllowed { question: 2 });
+    assert_eq!(asked(&[11, 1, 0, 11, 8, 0], 9), Error::NotAllowed { question: 2 });
+    assert_eq!(asked(&[11, 1, 0, 11, 1, 1], 9), Error::NotAllowed { question: 2 });
+    assert_eq!(asked(&[11, 1, 0, 11, 2, 0], 1), Error::NoRoom);
 }
 
 /// Every kind of question about a node.
-fn questions_about(node: Node) -> [Question; 10] {
+fn questions_about(node: Node) -> [Question; 11] {
     [
         Question::Parent(node),
         Question::FirstChild(node),
@@ -240,7 +318,32 @@ fn questions_about(node: Node) -> [Question; 10] {
         Question::ChildNumber { node, number: 1 },
         Question::Leaf(node),
         Question::SiblingAt { node, right: 0 },
+        Question::Metres(node),
     ]
+}
+
+#[test]
+fn metres_asked_for_where_there_are_none_are_not_taken_for_a_missing_node() {
+    let image = Image::check(image_of_t()).unwrap();
+    let (parent, metres) = (Question::Parent(Node::ROOT), Question::Metres(Node::ROOT));
+    let beyond = Question::Leaf(Node::new(8).unwrap());
+    let asked = |questions: &[Question]| {
+        let error = refused(9, Answer::Number(77), |answers| image.ask_into(questions, answers).map(<[Answer]>::len));
+        #[cfg(feature = "alloc")]
+        assert_eq!(image.ask(questions), Err(error));
+        error
+    };
+    let error = asked(&[parent, metres, beyond]);
+    assert_eq!(error, Error::NoMetresAsked { question: 2 });
+    assert_eq!((error.code(), error.place()), (8, 2));
+    assert_eq!(asked(&[parent, beyond, metres]), Error::NoSuchNodeAsked { question: 2, node: 8 });
+    assert_eq!(asked(&[Question::Metres(Node::new(8).unwrap())]), Error::NoMetresAsked { question: 1 });
+    #[cfg(feature = "alloc")]
+    for which in [1, 256, 257, 700] {
+        let mut questions = vec![parent; 1_000];
+        questions[which - 1] = metres;
+        assert_eq!(image.ask(&questions), Err(Error::NoMetresAsked { question: which as u32 }));
+    }
 }
 
 #[test]
@@ -265,7 +368,7 @@ fn asking_into_a_lent_slice_refuses() {
 
 #[test]
 fn a_node_that_the_tree_does_not_have_is_refused_in_every_question() {
-    let image = Image::check(image_of_t()).unwrap();
+    let image = Image::check(image_of_t_with_metres()).unwrap();
     for number in [8, 65_536, i32::MAX as u32, 1 << 31, u32::MAX] {
         let node = Node::new(number).unwrap();
         for question in questions_about(node) {
@@ -441,10 +544,10 @@ fn every_refusal_is_one_sentence() {
         (Error::EndsTooEarly { bits: 1 }, "after 1 bit the tree is not over"),
         (Error::LeftoverSet, "a bit after the last one, in the same byte, is set"),
         (Error::WrongSums { block: 3 }, "block 3 of the image has wrong sums"),
-        (Error::OtherVersion, "the version in the header is not 1, as with an older or a newer writer"),
+        (Error::OtherVersion, "the version in the header is neither 1 nor 2, as with an older or a newer writer"),
         (
             Error::WrongHeader,
-            "no tree with an image of this length has these header numbers, or a reserved word is not zero",
+            "no tree with an image of this version and length has these header numbers, or a reserved word is not zero",
         ),
         (
             Error::WrongStrings { block: 1 },
@@ -458,6 +561,8 @@ fn every_refusal_is_one_sentence() {
         (Error::NotAllowed { question: 700 }, "question 700: its kind, node or argument is not allowed"),
         (Error::NoSuchNodeAsked { question: 700, node: 8 }, "question 700: the tree has no node 8"),
         (Error::NoSuchNode { node: 9 }, "the tree has no node 9"),
+        (Error::NoMetres, "the image has no metres"),
+        (Error::NoMetresAsked { question: 700 }, "question 700: the image has no metres"),
         (Error::TooDeep { node: 65 }, "node 65 is at depth 64, but a listing ends at depth 63"),
         (Error::OtherTrees { found: 1, given: 3 }, "the pack has 1 tree, not 3"),
         (Error::OtherTrees { found: 2, given: 1 }, "the pack has 2 trees, not 1"),
@@ -471,6 +576,8 @@ fn every_refusal_is_one_sentence() {
     }
     let sizes = [
         (WrongSize::Nodes { nodes: 0 }, "a parent list of 0 numbers, but a tree has 1 to 65535 nodes"),
+        (WrongSize::Metres { metres: 6, nodes: 7 }, "6 numbers of metres for 7 nodes, but each node has one"),
+        (WrongSize::Metres { metres: 0, nodes: 1 }, "0 numbers of metres for 1 node, but each node has one"),
         (WrongSize::Bits { bits: 131_072 }, "131072 bits, but a tree string or a pack has at most 131071"),
         (WrongSize::Bytes { bytes: 3, bits: 15 }, "3 bytes for 15 bits, but they take exactly 2 bytes"),
         (WrongSize::Bytes { bytes: 2, bits: 8 }, "2 bytes for 8 bits, but they take exactly 1 byte"),
@@ -482,8 +589,8 @@ fn every_refusal_is_one_sentence() {
             "the joined pack would have 131073 bits, but a pack has at most 131071",
         ),
         (WrongSize::ImageBytes { bytes: 1 }, "an image of 1 byte, but an image is whole blocks of 512 bytes"),
-        (WrongSize::ImageTooLong { bytes: 27_137 }, "an image of 27137 bytes, but an image has at most 27136 bytes"),
-        (WrongSize::ImageBlocks { blocks: 4 }, "an image of 4 blocks, but an image has 5 to 53"),
+        (WrongSize::ImageTooLong { bytes: 293_889 }, "an image of 293889 bytes, but an image has at most 293888 bytes"),
+        (WrongSize::ImageBlocks { blocks: 4 }, "an image of 4 blocks, but an image has 5 to 574"),
         (WrongSize::QuestionNumbers { numbers: 2 }, "2 numbers, but each question takes 3"),
         (WrongSize::Questions { questions: 257 }, "257 questions, but one call answers at most 256"),
         (WrongSize::Unlisted, "a count or a length is outside its limits, or two do not fit each other"),

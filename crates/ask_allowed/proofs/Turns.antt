@@ -43,28 +43,28 @@ module _ (qs : List ℤ) (i : ℕ) where
 
 -- ---- the lowest that is not allowed
 
-module _ (n : ℕ) (qs : List ℤ) (i : ℕ) where
-  pub bad-end : length qs < 3 * i + 3 → notAllowed n (questions (drop (3 * i) qs)) i ≡ 0
+module _ (n : ℕ) (metres : Bool) (qs : List ℤ) (i : ℕ) where
+  pub bad-end : length qs < 3 * i + 3 → notAllowed n metres (questions (drop (3 * i) qs)) i ≡ 0
   unfolding notAllowed
-  bad-end l = ap (λ r. notAllowed n r i) (questions-end qs i l)
+  bad-end l = ap (λ r. notAllowed n metres r i) (questions-end qs i l)
 
   module _ (l : 3 * i + 3 ≤ length qs) where
-    bad-step : notAllowed n (questions (drop (3 * i) qs)) i ≡ cond (allowed n (questionAt qs i)) (notAllowed n (questions (drop (3 * (i + 1)) qs)) (suc i)) (suc i)
+    bad-step : notAllowed n metres (questions (drop (3 * i) qs)) i ≡ cond (allowed n metres (questionAt qs i)) (notAllowed n metres (questions (drop (3 * (i + 1)) qs)) (suc i)) (suc i)
     unfolding notAllowed
-    bad-step = ap (λ r. notAllowed n r i) (questions-next qs i l)
+    bad-step = ap (λ r. notAllowed n metres r i) (questions-next qs i l)
 
-    pub bad-here : allowed n (questionAt qs i) ≡ false → notAllowed n (questions (drop (3 * i) qs)) i ≡ i + 1
-    bad-here e = bad-step ∙ ap (λ t. cond t (notAllowed n (questions (drop (3 * (i + 1)) qs)) (suc i)) (suc i)) e ∙ sym (add-one i)
+    pub bad-here : allowed n metres (questionAt qs i) ≡ false → notAllowed n metres (questions (drop (3 * i) qs)) i ≡ i + 1
+    bad-here e = bad-step ∙ ap (λ t. cond t (notAllowed n metres (questions (drop (3 * (i + 1)) qs)) (suc i)) (suc i)) e ∙ sym (add-one i)
 
-    pub bad-next : allowed n (questionAt qs i) ≡ true → notAllowed n (questions (drop (3 * i) qs)) i ≡ notAllowed n (questions (drop (3 * (i + 1)) qs)) (i + 1)
+    pub bad-next : allowed n metres (questionAt qs i) ≡ true → notAllowed n metres (questions (drop (3 * i) qs)) i ≡ notAllowed n metres (questions (drop (3 * (i + 1)) qs)) (i + 1)
     bad-next e =
         bad-step
-        ∙ ap (λ t. cond t (notAllowed n (questions (drop (3 * (i + 1)) qs)) (suc i)) (suc i)) e
-        ∙ ap (notAllowed n (questions (drop (3 * (i + 1)) qs))) (sym (add-one i))
+        ∙ ap (λ t. cond t (notAllowed n metres (questions (drop (3 * (i + 1)) qs)) (suc i)) (suc i)) e
+        ∙ ap (notAllowed n metres (questions (drop (3 * (i + 1)) qs))) (sym (add-one i))
 
-    pub all-allowed : notAllowed n (questions (drop (3 * i) qs)) i ≡ 0 → allowed n (questionAt qs i) ≡ true
-    all-allowed e = go (allowed n (questionAt qs i)) refl
+    pub all-allowed : notAllowed n metres (questions (drop (3 * i) qs)) i ≡ 0 → allowed n metres (questionAt qs i) ≡ true
+    all-allowed e = go (allowed n metres (questionAt qs i)) refl
       where
-        go : (t : Bool) → allowed n (questionAt qs i) ≡ t → t ≡ true
+        go : (t : Bool) → allowed n metres (questionAt qs i) ≡ t → t ≡ true
         go true f = refl
         go false f = absurd (omega (arith, bad-here f))

@@ -34,15 +34,20 @@ pub fn number(z: Signed) -> u32
     z.size
 }
 
-// Kinds 8 and 10 take any argument, the others 0.
-fn argument_allowed(kind: u32, z: Signed) -> bool
-    ensures { λ r. ⌜ r ≡ allowedKind (kindOf (pos kind)) (valueOf z) ⌝ }
+// Kinds 8 and 10 take any argument, the others 0; kind 11 is asked only where there are metres.
+fn argument_allowed(kind: u32, z: Signed, metres: bool) -> bool
+    ensures { λ r. ⌜ r ≡ allowedKind metres (kindOf (pos kind)) (valueOf z) ⌝ }
 {
     if kind < 1 {
         return false;
     }
-    if 10 < kind {
+    if 11 < kind {
         return false;
+    }
+    if kind == 11 {
+        if !metres {
+            return false;
+        }
     }
     if kind == 8 {
         return true;
@@ -53,10 +58,10 @@ fn argument_allowed(kind: u32, z: Signed) -> bool
     z.size == 0
 }
 
-// Is question number i, from 0, allowed in a tree of n nodes?
-fn allowed_at(asked: &[i32], i: usize, n: u32) -> bool
+// Is question number i, from 0, allowed in a tree of n nodes, with metres or without?
+fn allowed_at(asked: &[i32], i: usize, n: u32, metres: bool) -> bool
     requires { ⌜ 3 * i + 3 ≤ length (now asked) ⌝ }
-    ensures { λ r. ⌜ r ≡ allowed n (questionAt (now (asked .entry)) i) ⌝ }
+    ensures { λ r. ⌜ r ≡ allowed n metres (questionAt (now (asked .entry)) i) ⌝ }
 {
     let node = number(signed_at(asked, 3 * i + 1));
     if node < 1 {
@@ -65,18 +70,22 @@ fn allowed_at(asked: &[i32], i: usize, n: u32) -> bool
     if n < node {
         return false;
     }
-    argument_allowed(number(signed_at(asked, 3 * i)), signed_at(asked, 3 * i + 2))
+    argument_allowed(
+        number(signed_at(asked, 3 * i)),
+        signed_at(asked, 3 * i + 2),
+        metres,
+    )
 }
 
 // The lowest question, from 1, that is not allowed: 0 if there is none.
-pub fn lowest_not_allowed(asked: &[i32], n: u32) -> u32
+pub fn lowest_not_allowed(asked: &[i32], n: u32, metres: bool) -> u32
     requires { ⌜ length (now asked) ≤ 3 * 256 ⌝ }
-    ensures { λ r. ⌜ r ≡ notAllowed n (questions (now (asked .entry))) 0 ⌝ }
+    ensures { λ r. ⌜ r ≡ notAllowed n metres (questions (now (asked .entry))) 0 ⌝ }
 {
     let count = asked.len() / 3;
     let mut i: usize = 0;
     while i < count {
-        if !allowed_at(asked, i, n) {
+        if !allowed_at(asked, i, n, metres) {
             return (i + 1) as u32;
         }
         i += 1;

@@ -6,8 +6,8 @@ use native.Mathlib.Omega.{arith}
 use lib.IntN.{ℤ, pos}
 use Rattle.meaning.specs.Questions.{answerKind, kindOf}
 
-pub of-kind : (ps : List ℕ) (kind n x y : ℕ) (z : ℤ) → kind ≡ n → y ≡ answerKind ps (kindOf (pos n)) x z → y ≡ answerKind ps (kindOf (pos kind)) x z
-of-kind ps kind n x y z e f = f ∙ ap (λ k. answerKind ps (kindOf (pos k)) x z) (sym e)
+pub of-kind : (ps ms : List ℕ) (kind n x y : ℕ) (z : ℤ) → kind ≡ n → y ≡ answerKind ps ms (kindOf (pos n)) x z → y ≡ answerKind ps ms (kindOf (pos kind)) x z
+of-kind ps ms kind n x y z e f = f ∙ ap (λ k. answerKind ps ms (kindOf (pos k)) x z) (sym e)
 
 -- k is none of the numbers 1 to n
 abbrev NoneTo : ℕ → ℕ → Type 0

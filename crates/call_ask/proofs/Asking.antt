@@ -1,6 +1,6 @@
 -- What asking an image comes to, from what the tests show.
 use mathlib.Core.Path.{_≡_, sym, ap, _∙_}
-use mathlib.Core.Bool.{true, false, not, _||_}
+use mathlib.Core.Bool.{Bool, true, false, not, _||_}
 use mathlib.Core.List.{List, [], _∷_, map}
 use Prim.Native.Nat.{ℕ, _/_, _%_, _≤_, _<_}
 use native.Mathlib.Omega.{arith}
@@ -11,7 +11,7 @@ use lib.ListN.{length, length-map}
 use Rattle.meaning.specs.declared.Answer.{Answer}
 use Rattle.meaning.specs.declared.Refusal.{Refusal}
 use Rattle.meaning.specs.Answers.{Row, _at_when_, refusedWith, counts, cameTo, settle, written, tooShort}
-use Rattle.meaning.specs.Image.{parentsIn}
+use Rattle.meaning.specs.Image.{present, listOf, parentsIn, metresIn}
 use Rattle.meaning.specs.Questions.{questions, notAllowed, answerTo}
 use Rattle.meaning.specs.Tests.{wrongSize, checkRows}
 use Rattle.calls.specs.Calls.{wrongQuestions, askImage}
@@ -22,6 +22,8 @@ use Rattle.image_found.specs.declared.Checked.{Checked}
 use Rattle.image_found.specs.declared.Checked.the-variants.{Sound, Refused}
 use Rattle.image_found.specs.Checked.{checked}
 use Rattle.image_found.proofs.Finding.{comesTo, rows-checked, sound-known}
+use Rattle.nav_metres.specs.Presence.{areAt}
+use Rattle.nav_metres.proofs.Measures.{presence}
 use Rattle.ask_allowed.proofs.Turns.{questions-count}
 
 -- ---- the size of the list
@@ -42,10 +44,10 @@ module _ (bytes : List ℕ) (qs : List ℤ) (out : List ℕ) where
   given = parentsIn bytes
 
   abbrev bad : ℕ
-  bad = notAllowed (length given) (questions qs) 0
+  bad = notAllowed (length given) (present (metresIn bytes)) (questions qs) 0
 
   abbrev answers : List ℕ
-  answers = map (answerTo given) (questions qs)
+  answers = map (answerTo given (listOf (metresIn bytes))) (questions qs)
 
   abbrev short : Row
   short = 1 at 0 when tooShort answers out
@@ -72,18 +74,26 @@ module _ (bytes : List ℕ) (qs : List ℤ) (out : List ℕ) where
       nodes-are : length given ≡ i .nodes
       nodes-are = let k = sound-known bytes i e in parts-read bytes (k .image) .count ∙ ap (λ j. j .nodes) (sym (k .read))
 
-      bad-is : bad ≡ notAllowed (i .nodes) (questions qs) 0
-      bad-is = ap (λ n. notAllowed n (questions qs) 0) nodes-are
+      -- the lowest question that is not allowed, by the layout's nodes
+      abbrev lowest : ℕ
+      lowest = notAllowed (i .nodes) (present (metresIn bytes)) (questions qs) 0
+
+      bad-is : bad ≡ lowest
+      bad-is = ap (λ n. notAllowed n (present (metresIn bytes)) (questions qs) 0) nodes-are
+
+      -- and by where the layout has the metres
+      pub lowest-is : (y : ℕ) (t : Bool) → t ≡ areAt (i .metres) → y ≡ notAllowed (i .nodes) t (questions qs) 0 → y ≡ lowest
+      lowest-is y t f g = g ∙ ap (λ b. notAllowed (i .nodes) b (questions qs) 0) (f ∙ presence bytes i e)
 
       count-is : length answers ≡ length qs / 3
-      count-is = length-map (questions qs) (answerTo given) ∙ questions-count qs
+      count-is = length-map (questions qs) (answerTo given (listOf (metresIn bytes))) ∙ questions-count qs
 
-      pub asked-bad : (notAllowed (i .nodes) (questions qs) 0 ≡ 0 → ⊥) → cameTo (refusedWith 8 (notAllowed (i .nodes) (questions qs) 0)) out ≡ askImage bytes qs out
+      pub asked-bad : (lowest ≡ 0 → ⊥) → cameTo (refusedWith 8 lowest) out ≡ askImage bytes qs out
       asked-bad h =
           ap (λ p. cameTo (refusedWith 8 p) out) (sym bad-is)
           ∙ sym (by-check (Sound i) e ∙ settle-here out counted (written answers out) (8 at bad when ltb 0 bad) (short ∷ []) (lt-ltb 0 bad (omega (arith, bad-is))))
 
-      module _ (fine : notAllowed (i .nodes) (questions qs) 0 ≡ 0) where
+      module _ (fine : lowest ≡ 0) where
         by-room : askImage bytes qs out ≡ settle out (short ∷ []) counted (written answers out)
         by-room = by-check (Sound i) e ∙ settle-on out counted (written answers out) (8 at bad when ltb 0 bad) (short ∷ []) (le-ltb 0 bad (omega (arith, bad-is)))
 

@@ -12,6 +12,7 @@ use meaning::MOST_QUESTIONS;
 use meaning::NO_ROOM;
 use meaning::NOT_ALLOWED;
 use meaning::WRONG_SIZE;
+use nav_metres::has_metres;
 use table_answers::done;
 use table_answers::refuse;
 
@@ -30,7 +31,7 @@ pub fn ask(b: &[u8], questions: &[i32], answers: &mut [u32]) -> Answer
     let Checked::Sound(image) = found else {
         return answer_of(found);
     };
-    let bad = lowest_not_allowed(questions, image.nodes);
+    let bad = lowest_not_allowed(questions, image.nodes, has_metres(image));
     if bad != 0 {
         return refuse(NOT_ALLOWED, bad);
     }

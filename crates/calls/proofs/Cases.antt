@@ -7,17 +7,19 @@ use Rattle.meaning.specs.Bytes.{bitsFrom, leftover, packed}
 use Rattle.meaning.specs.Scan.{place}
 use Rattle.meaning.specs.Packs.{starts, sizes}
 use Rattle.meaning.specs.Blocks.{wrongBlock}
-use Rattle.meaning.specs.Image.{imageOfString, headerWord, parentsIn}
+use Rattle.meaning.specs.Image.{imageOfString, headerWord, parentsIn, metresIn}
 use Rattle.meaning.specs.Faults.{isHeader, areStrings, wrongKept, wrongSample}
 use Rattle.meaning.specs.Questions.{notAllowed, answerTo}
 use Rattle.meaning.specs.Listing.{listing, deep}
 use Rattle.meaning.specs.Answers.{firstHolding, settle}
 use Rattle.meaning.specs.Tests.{wrongToSplit, wrongToJoin, parentRows, checkRows, packRows}
-use Rattle.calls.specs.Calls.{stringOfParents, parentsOfString, imageOfParents, checkImage, parentsOfImage, askImage, listImage, splitPack, joinPack, does}
+use Rattle.calls.specs.Calls.{stringOfParents, parentsOfString, sealParents, imageOfParents, imageWithMetres, checkImage}
+use Rattle.calls.specs.Calls.{parentsOfImage, metresOfImage, askImage, listImage, splitPack, joinPack, does}
 use Rattle.calls.specs.Cases.{cases, Case}
 
 pub cases-hold : map (λ (c : Case). does (c .call)) cases ≡ map (λ (c : Case). c .back) cases
-unfolding cases does stringOfParents parentsOfString imageOfParents checkImage parentsOfImage askImage listImage splitPack joinPack
+unfolding cases does stringOfParents parentsOfString sealParents imageOfParents imageWithMetres checkImage parentsOfImage metresOfImage askImage listImage splitPack joinPack
     wrongToSplit wrongToJoin parentRows checkRows packRows firstHolding settle
-    badEntry R1 parentsOf stringOf bitsFrom leftover packed place starts sizes wrongBlock imageOfString headerWord isHeader areStrings wrongKept wrongSample parentsIn notAllowed answerTo listing deep
+    badEntry R1 parentsOf stringOf bitsFrom leftover packed place starts sizes wrongBlock
+    imageOfString headerWord isHeader areStrings wrongKept wrongSample parentsIn metresIn notAllowed answerTo listing deep
 cases-hold = refl

@@ -1,8 +1,9 @@
--- The nine public calls: from what is lent to the answer and to what the lent lists hold
+-- The eleven public calls: from what is lent to the answer and to what the lent lists hold
 -- afterwards, for any input.
 -- The refusals of each are in the order of document 01's table, "Numbers a caller gets back".
 use mathlib.Core.Bool.{Bool, false, not, _||_}
 use mathlib.Core.List.{List, [], _∷_, _++_, map}
+use mathlib.Core.Option.{Option, none, some}
 use Prim.Native.Nat.{ℕ, _+_, _*_, _/_, _%_}
 use lib.Dec.{ltb, eqb}
 use lib.IntN.{ℤ}
@@ -12,7 +13,7 @@ use Rattle.meaning.specs.Strings.{ones, R1, parentsOf, stringOf}
 use Rattle.meaning.specs.Bytes.{bitsFrom, bytesFor, leftover, packed}
 use Rattle.meaning.specs.Scan.{one, place}
 use Rattle.meaning.specs.Packs.{starts, sizes}
-use Rattle.meaning.specs.Image.{imageOfString, parentsIn}
+use Rattle.meaning.specs.Image.{present, listOf, imageOfString, parentsIn, metresIn}
 use Rattle.meaning.specs.Questions.{questions, isNode, notAllowed, answerTo}
 use Rattle.meaning.specs.Listing.{listing, deep}
 use Rattle.meaning.specs.declared.Answer.{Answer}
@@ -45,15 +46,30 @@ parentsOfString bytes L ps =
 
 -- ---- Images.
 
-unfoldable pub imageOfParents : List ℕ → List ℕ → Outcome (List ℕ)
-imageOfParents ps bytes =
+-- a list of metres whose length is not that of the parent list
+abbrev pub wrongMetres : Option (List ℕ) → List ℕ → Bool
+wrongMetres none ps = false
+wrongMetres (some ms) ps = not (eqb (length ms) (length ps))
+
+-- the image of a parent list, with metres or without
+unfoldable pub sealParents : Option (List ℕ) → List ℕ → List ℕ → Outcome (List ℕ)
+sealParents ms ps bytes =
     let bits = stringOf ps in
     settle bytes
-    (parentRows ps
-    ++ 1 at 0 when tooShort (imageOfString bits) bytes
+    (2 at 0 when wrongMetres ms ps
+    ∷ parentRows ps
+    ++ 1 at 0 when tooShort (imageOfString ms bits) bytes
     ∷ [])
     (counts (length ps) (ones (R1 bits)))
-    (written (imageOfString bits) bytes)
+    (written (imageOfString ms bits) bytes)
+
+unfoldable pub imageOfParents : List ℕ → List ℕ → Outcome (List ℕ)
+unfolding sealParents
+imageOfParents ps bytes = sealParents none ps bytes
+
+unfoldable pub imageWithMetres : List ℕ → List ℕ → List ℕ → Outcome (List ℕ)
+unfolding sealParents
+imageWithMetres ps ms bytes = sealParents (some ms) ps bytes
 
 unfoldable pub checkImage : List ℕ → Outcome Unit
 checkImage image =
@@ -70,6 +86,17 @@ parentsOfImage image out =
     (counts (length ps) 0)
     (written ps out)
 
+unfoldable pub metresOfImage : List ℕ → List ℕ → Outcome (List ℕ)
+metresOfImage image out =
+    let ms = metresIn image in
+    settle out
+    (checkRows image false
+    ++ 8 at 1 when not (present ms)
+    ∷ 1 at 0 when tooShort (listOf ms) out
+    ∷ [])
+    (counts (length (listOf ms)) 0)
+    (written (listOf ms) out)
+
 -- questions not in threes or over 256
 abbrev pub wrongQuestions : List ℤ → Bool
 wrongQuestions qs = not (eqb (length qs % 3) 0) || ltb 256 (length qs / 3)
@@ -77,8 +104,9 @@ wrongQuestions qs = not (eqb (length qs % 3) 0) || ltb 256 (length qs / 3)
 unfoldable pub askImage : List ℕ → List ℤ → List ℕ → Outcome (List ℕ)
 askImage image qs out =
     let ps = parentsIn image in
-    let bad = notAllowed (length ps) (questions qs) 0 in
-    let answers = map (answerTo ps) (questions qs) in
+    let ms = metresIn image in
+    let bad = notAllowed (length ps) (present ms) (questions qs) 0 in
+    let answers = map (answerTo ps (listOf ms)) (questions qs) in
     settle out
     (checkRows image (wrongQuestions qs)
     ++ 8 at bad when ltb 0 bad
@@ -134,7 +162,9 @@ pub data Call : Type 0 where
   string-of-parents : (parents bytes : List ℕ) → Call
   parents-of-string : (bytes : List ℕ) (L : ℕ) (parents : List ℕ) → Call
   image-of-parents : (parents image : List ℕ) → Call
+  image-with-metres : (parents metres image : List ℕ) → Call
   parents-of-image : (image parents : List ℕ) → Call
+  metres-of-image : (image metres : List ℕ) → Call
   check-image : (image : List ℕ) → Call
   ask : (image : List ℕ) (questions : List ℤ) (answers : List ℕ) → Call
   list : (image : List ℕ) (x : ℕ) (listing : List ℕ) → Call
@@ -155,7 +185,9 @@ unfoldable pub does : Call → Back
 does (string-of-parents ps out) = oneList (stringOfParents ps out)
 does (parents-of-string bytes L out) = oneList (parentsOfString bytes L out)
 does (image-of-parents ps out) = oneList (imageOfParents ps out)
+does (image-with-metres ps ms out) = oneList (imageWithMetres ps ms out)
 does (parents-of-image image out) = oneList (parentsOfImage image out)
+does (metres-of-image image out) = oneList (metresOfImage image out)
 does (check-image image) = record { answer = checkImage image .answer; lent = [] }
 does (ask image qs out) = oneList (askImage image qs out)
 does (list image x out) = oneList (listImage image x out)

@@ -1,6 +1,7 @@
 -- Document 01's cases, "Twelve checked by hand", with its traps, cheap limits and document 02's
 -- codes: a call, its inputs, and what comes back, lent lists included.
 use mathlib.Core.List.{List, [], _∷_, _++_}
+use mathlib.Core.Option.{none}
 use Prim.Native.Nat.{ℕ, zero, suc, _*_, _-_}
 use lib.IntN.{ℤ, pos, negsuc}
 use lib.ListN.{length, replicate}
@@ -9,7 +10,7 @@ use Rattle.meaning.specs.Strings.{stringOf}
 use Rattle.meaning.specs.Blocks.{le32, wordBytes}
 use Rattle.meaning.specs.Image.{imageOfString}
 use Rattle.meaning.specs.Answers.{refusedWith, counts}
-use Rattle.calls.specs.Calls.{Call, string-of-parents, parents-of-string, image-of-parents, parents-of-image, check-image, ask, list, split, join, Back}
+use Rattle.calls.specs.Calls.{Call, string-of-parents, parents-of-string, image-of-parents, image-with-metres, parents-of-image, metres-of-image, check-image, ask, list, split, join, Back}
 
 pub record Case : Type 0 where
   pub call : Call
@@ -63,6 +64,17 @@ samplesT = block (1 ∷ []) 4 504
 imageT : List ℕ
 imageT = imageWith headerT stringT samplesT
 
+-- T's metres, and its image with them: the header, the blocks of T as before, and the metres
+abbrev metresT : List ℕ
+metresT = 10 ∷ 20 ∷ 30 ∷ 40 ∷ 50 ∷ 60 ∷ 70 ∷ []
+
+treeT : List ℕ
+treeT = imageWith (block (2 ∷ 7 ∷ 4 ∷ 6 ∷ []) 19 2361) stringT samplesT
+
+measuredT : List ℕ
+unfolding treeT
+measuredT = treeT ++ block metresT 285 34790
+
 -- the parents of a path of n + 1 nodes: 0, 1, .., n
 path : ℕ → List ℕ
 path zero = 0 ∷ []
@@ -76,7 +88,7 @@ down (suc n) x d = x ∷ d ∷ down n (suc x) (suc d)
 -- ---- The table.
 
 unfoldable pub cases : List Case
-unfolding imageT path down stringOf imageOfString
+unfolding imageT treeT measuredT path down stringOf imageOfString
 cases =
     -- 1
     string-of-parents T (room 3) gives counts 15 1 with ((0xBB ∷ 0x20 ∷ 9 ∷ []) ∷ [])
@@ -125,10 +137,11 @@ cases =
     ∷ split [] 0 0 [] [] gives counts 0 0 with ([] ∷ [] ∷ [])
     -- the listing of T
     ∷ list imageT 1 (room 15) gives counts 7 0 with ((1 ∷ 0 ∷ 2 ∷ 1 ∷ 5 ∷ 2 ∷ 6 ∷ 2 ∷ 3 ∷ 1 ∷ 4 ∷ 1 ∷ 7 ∷ 2 ∷ 9 ∷ []) ∷ [])
-    -- words of T's image changed, with the sums made right again: the version, m alone, a reserved
-    -- word, an m that the strings do not have, a count of earlier ones, a word after the samples, a
-    -- sample
-    ∷ check-image (imageWith (block (2 ∷ 7 ∷ 4 ∷ 5 ∷ []) 18 2238) stringT samplesT) gives code 11 place 0 with []
+    -- words of T's image changed, with the sums made right again: the version, version 2 without
+    -- metres, m alone, a reserved word, an m that the strings do not have, a count of earlier ones,
+    -- a word after the samples, a sample
+    ∷ check-image (imageWith (block (3 ∷ 7 ∷ 4 ∷ 5 ∷ []) 19 2364) stringT samplesT) gives code 11 place 0 with []
+    ∷ check-image (imageWith (block (2 ∷ 7 ∷ 4 ∷ 5 ∷ []) 18 2238) stringT samplesT) gives code 12 place 0 with []
     ∷ check-image (imageWith (block (1 ∷ 7 ∷ 1 ∷ 5 ∷ []) 14 1740) stringT samplesT) gives code 12 place 0 with []
     ∷ check-image (imageWith (block (1 ∷ 7 ∷ 4 ∷ 5 ∷ 1 ∷ []) 18 2234) stringT samplesT) gives code 12 place 0 with []
     ∷ check-image (imageWith (block (1 ∷ 7 ∷ 3 ∷ 5 ∷ []) 16 1988) stringT samplesT) gives code 13 place 1 with []
@@ -137,10 +150,26 @@ cases =
     ∷ check-image (imageWith headerT stringT (block (2 ∷ []) 5 630)) gives code 15 place 3 with []
     -- a block whose sums are wrong
     ∷ check-image (imageWith headerT stringT (block (1 ∷ []) 4 505)) gives code 6 place 3 with []
+    -- document 02, item 2: T with metres, and the way back; without metres there are none to read
+    ∷ image-with-metres T metresT (room 3074) gives counts 7 4 with ((measuredT ++ room 2) ∷ [])
+    ∷ check-image measuredT gives counts 7 4 with []
+    ∷ parents-of-image measuredT (room 7) gives counts 7 0 with (T ∷ [])
+    ∷ metres-of-image measuredT (room 8) gives counts 7 0 with ((metresT ++ room 1) ∷ [])
+    ∷ metres-of-image measuredT (room 6) gives code 1 place 0 with (room 6 ∷ [])
+    ∷ metres-of-image imageT [] gives code 8 place 1 with ([] ∷ [])
+    -- the metres of nodes 1 and 7; without metres, and with an argument, that is not allowed
+    ∷ ask measuredT (question 11 1 (pos 0) ++ question 11 7 (pos 0)) (room 2) gives counts 2 0 with ((10 ∷ 70 ∷ []) ∷ [])
+    ∷ ask imageT (question 1 7 (pos 0) ++ question 11 7 (pos 0)) (room 2) gives code 8 place 2 with (room 2 ∷ [])
+    ∷ ask measuredT (question 11 7 (pos 1)) (room 1) gives code 8 place 1 with (room 1 ∷ [])
+    -- six metres for seven nodes, one for two that are no parent list; the word behind the metres
+    ∷ image-with-metres T (10 ∷ 20 ∷ 30 ∷ 40 ∷ 50 ∷ 60 ∷ []) (room 1) gives code 2 place 0 with (room 1 ∷ [])
+    ∷ image-with-metres (0 ∷ 2 ∷ []) (10 ∷ []) (room 1) gives code 2 place 0 with (room 1 ∷ [])
+    ∷ image-with-metres (0 ∷ 2 ∷ []) (10 ∷ 20 ∷ []) (room 1) gives code 3 place 2 with (room 1 ∷ [])
+    ∷ check-image (treeT ++ block (10 ∷ 20 ∷ 30 ∷ 40 ∷ 50 ∷ 60 ∷ 70 ∷ 1 ∷ []) 286 34909) gives code 14 place 5 with []
     -- lists of 65,536 and of 65,535 numbers
     ∷ string-of-parents (replicate 65536 0) [] gives code 2 place 0 with ([] ∷ [])
     ∷ string-of-parents (replicate 65535 0) [] gives code 3 place 2 with ([] ∷ [])
     -- paths of 64 and of 65 nodes
-    ∷ list (imageOfString (stringOf (path 63))) 1 (room 128) gives counts 64 0 with (down 64 1 0 ∷ [])
-    ∷ list (imageOfString (stringOf (path 64))) 1 (room 130) gives code 9 place 65 with (room 130 ∷ [])
+    ∷ list (imageOfString none (stringOf (path 63))) 1 (room 128) gives counts 64 0 with (down 64 1 0 ∷ [])
+    ∷ list (imageOfString none (stringOf (path 64))) 1 (room 130) gives code 9 place 65 with (room 130 ∷ [])
     ∷ []

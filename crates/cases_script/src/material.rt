@@ -1,4 +1,5 @@
-// What the calls of a script are made on: a tree, and bytes in hand (a string, a pack or an image).
+// What the calls of a script are made on: a tree, metres of its nodes, and bytes in hand (a string,
+// a pack or an image).
 use crate::number;
 use crate::put_bytes;
 use crate::room;
@@ -49,18 +50,31 @@ fn mixed(i: u32, p: u32, seed: usize) -> u32 {
     least(wrapping_add_u32(p, STEPS[seed % 8]), i)
 }
 
-// The parent of the node that has i nodes before it, in the tree that the line asks for:
+// The metres of the node that has i nodes before it, where p is those of the node before.
+fn risen(i: usize, p: u32, first: u32, step: u32) -> u32 {
+    if i == 0 {
+        first
+    } else {
+        wrapping_add_u32(p, step)
+    }
+}
+
+// The parent or the metres of the node that has i nodes before it, where p is that of the node
+// before, in the tree or the metres that the line asks for:
 // parents PARENT..         these parents
 // grow HANDLE              a path of so many nodes, whose last has all later nodes as children:
 //                          a star where there is one
 // branches COUNT BOTH      branches side by side
 // mixed                    the mixed tree
-fn parent(word: Word, numbers: &[u32], i: usize, p: u32, seed: usize) -> u32 {
+// metres NUMBER..          these metres
+// rise FIRST STEP          metres that grow by as much from each node to the next, modulo 2^32
+fn planted(word: Word, numbers: &[u32], i: usize, p: u32, seed: usize) -> u32 {
     match word {
-        Word::Parents => number(numbers, i),
+        Word::Parents | Word::Metres => number(numbers, i),
         Word::Grow => least(low(i), number(numbers, 0)),
         Word::Branches => branched(low(i), number(numbers, 0), number(numbers, 1)),
-        _ => mixed(low(i), p, seed),
+        Word::Mixed => mixed(low(i), p, seed),
+        _ => risen(i, p, number(numbers, 0), number(numbers, 1)),
     }
 }
 
@@ -68,13 +82,13 @@ fn stirred(seed: usize) -> usize {
     (seed % 65537 * 75 + 74) % 65537
 }
 
-// Fills the whole list: its first entries are the smaller trees of the same kind.
-pub fn plant(word: Word, numbers: &[u32], parents: &mut [u32]) {
+// Fills the whole list: its first entries are the smaller trees of the same kind, and their metres.
+pub fn plant(word: Word, numbers: &[u32], list: &mut [u32]) {
     let mut p: u32 = 0;
     let mut seed: usize = 1;
-    for i in 0..parents.len() {
-        p = parent(word, numbers, i, p, seed);
-        parents[i] = p;
+    for i in 0..list.len() {
+        p = planted(word, numbers, i, p, seed);
+        list[i] = p;
         seed = stirred(seed);
     }
 }
@@ -105,21 +119,21 @@ fn flip(numbers: &[u32], bytes: &mut [u8]) {
 fn reseal(numbers: &[u32], bytes: &mut [u8]) {
     let most = bytes.len() / 512;
     let n = room(numbers, 0, most);
-    if n <= 53 {
+    if n <= 574 {
         seal_sums::seal_blocks(bytes, n);
     }
 }
 
 // hold BYTE..              these bytes, and 9s after them
 // flip PLACE BITS          changes bits of a byte
-// reseal BLOCKS            makes the sums of so many blocks right
+// reseal BLOCKS            makes the sums of so many blocks right, up to the 574 of an image
 // Before a string or an image is made there are 9s as far as its room goes, and zeros after.
 pub fn alter(word: Word, numbers: &[u32], bytes: &mut [u8]) {
     match word {
         Word::Hold => hold(numbers, bytes),
         Word::Flip => flip(numbers, bytes),
         Word::Reseal => reseal(numbers, bytes),
-        Word::Encode | Word::Image => clear(numbers, bytes),
+        Word::Encode | Word::Image | Word::Survey => clear(numbers, bytes),
         _ => {}
     }
 }

@@ -1,20 +1,24 @@
 // The words of a script.
 
-// What the first word of a line asks for: a tree, up to `Mixed`, and other bytes in hand, up to
-// `Reseal`, as `material` says; then what the program `cases` does.
+// What the first word of a line asks for: a tree, up to `Mixed`, metres, up to `Rise`, and other
+// bytes in hand, up to `Reseal`, as `material` says; then what the program `cases` does.
 pub enum Word {
     Parents,
     Grow,
     Branches,
     Mixed,
+    Metres,
+    Rise,
     Hold,
     Flip,
     Reseal,
     Encode,
     Image,
+    Survey,
     Join,
     Decode,
     Unseal,
+    Distances,
     Ask,
     List,
     Check,
@@ -54,6 +58,12 @@ pub fn word_of(line: &[u8]) -> Word {
     if is_word(line, b"mixed") {
         return Word::Mixed;
     }
+    if is_word(line, b"metres") {
+        return Word::Metres;
+    }
+    if is_word(line, b"rise") {
+        return Word::Rise;
+    }
     if is_word(line, b"hold") {
         return Word::Hold;
     }
@@ -69,6 +79,9 @@ pub fn word_of(line: &[u8]) -> Word {
     if is_word(line, b"image") {
         return Word::Image;
     }
+    if is_word(line, b"survey") {
+        return Word::Survey;
+    }
     if is_word(line, b"join") {
         return Word::Join;
     }
@@ -77,6 +90,9 @@ pub fn word_of(line: &[u8]) -> Word {
     }
     if is_word(line, b"unseal") {
         return Word::Unseal;
+    }
+    if is_word(line, b"distances") {
+        return Word::Distances;
     }
     if is_word(line, b"ask") {
         return Word::Ask;

@@ -5,7 +5,7 @@ use Prim.Native.Nat.{ℕ, _+_, _*_, _/_, _%_, _≤_, _<_}
 use native.Mathlib.Omega.{arith}
 use lib.ListN.{length, getD}
 use Rattle.theory.specs.Layout.{wordAt}
-use Rattle.theory.specs.Stages.{Header, nodesOf, runsOf, blocksNeeded}
+use Rattle.theory.specs.Stages.{Header, nodesOf, runsOf, versionIn, blocksNeeded}
 use Rattle.image_string.specs.Parts.{ZeroBytes}
 use Rattle.check_header.specs.Told.{RunsFit}
 use Rattle.image_string.proofs.Zeros.{word-bytes, zero-word}
@@ -22,7 +22,7 @@ words-zero bytes z i h g =
 -- ---- the header
 
 module _ (bytes : List ℕ) (blocks n m : ℕ) (size : length bytes ≡ 512 * blocks) (nodes : n ≡ nodesOf bytes) (marks : m ≡ runsOf bytes) where
-  pub header-all : 1 ≤ n → n ≤ 65535 → RunsFit n m → wordAt bytes 12 ≡ blocks → blocksNeeded n m ≡ blocks → ZeroBytes bytes 16 504 → Header bytes
+  pub header-all : 1 ≤ n → n ≤ 65535 → RunsFit n m → wordAt bytes 12 ≡ blocks → blocksNeeded (versionIn bytes) n m ≡ blocks → ZeroBytes bytes 16 504 → Header bytes
   header-all some most runs count needed z = record {
     some = omega arith;
     most = omega arith;
@@ -30,12 +30,12 @@ module _ (bytes : List ℕ) (blocks n m : ℕ) (size : length bytes ≡ 512 * bl
     runsMost = omega (arith, runs .most);
     runsTwo = λ two. omega (arith, runs .two (omega arith));
     blocks = omega arith;
-    needed = let e : length bytes / 512 ≡ blocks = omega arith in e ∙ sym needed ∙ ap₂ (λ a b. blocksNeeded a b) nodes marks;
+    needed = let e : length bytes / 512 ≡ blocks = omega arith in e ∙ sym needed ∙ ap₂ (blocksNeeded (versionIn bytes)) nodes marks;
     reserved = zero-words bytes z;
   }
 
   pub header-runs : Header bytes → RunsFit n m
   header-runs h = record { some = omega (arith, h .runsSome); most = omega (arith, h .runsMost); two = λ two. omega (arith, h .runsTwo (omega arith)) }
 
-  pub header-needs : Header bytes → blocksNeeded n m ≡ blocks
-  header-needs h = ap₂ (λ a b. blocksNeeded a b) nodes marks ∙ sym (h .needed) ∙ omega arith
+  pub header-needs : Header bytes → blocksNeeded (versionIn bytes) n m ≡ blocks
+  header-needs h = ap₂ (blocksNeeded (versionIn bytes)) nodes marks ∙ sym (h .needed) ∙ omega arith

@@ -2,8 +2,8 @@
 use mathlib.Core.Path.{_≡_}
 use mathlib.Core.List.{List}
 use Prim.Native.Nat.{ℕ, _≤_}
-use Rattle.theory.specs.Stages.{Header, nodesOf, runsOf}
-use Rattle.image_layout.specs.Layout.{layoutOf}
+use Rattle.theory.specs.Stages.{Header}
+use Rattle.image_layout.specs.Layout.{layoutIn}
 use Rattle.check_header.specs.declared.HeaderFound.{HeaderFound}
 use Rattle.check_header.specs.declared.HeaderFound.the-variants.{Right, Wrong}
 
@@ -13,7 +13,7 @@ pub record RunsFit (n m : ℕ) : Type 0 where
   pub most : m ≤ n
   pub two : 2 ≤ n → 2 ≤ m
 
--- the header is right, and this is the layout that its n and m give; or it is wrong
+-- the header is right, and this is the layout that its version, n and m give; or it is wrong
 abbrev pub HeaderIs : HeaderFound → List ℕ → Type 0
-HeaderIs (Right layout) bytes = Header bytes × (layout ≡ layoutOf (nodesOf bytes) (runsOf bytes))
+HeaderIs (Right layout) bytes = Header bytes × (layout ≡ layoutIn bytes)
 HeaderIs Wrong bytes = Header bytes → ⊥

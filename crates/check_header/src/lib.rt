@@ -3,7 +3,7 @@ ghost use mathlib.Core.Path.{_≡_};
 ghost use Prim.Native.Nat.{_*_, _≤_};
 ghost use lib.ListN.{length};
 ghost use Rattle.theory.specs.Bounds.{mostBlock};
-ghost use Rattle.theory.specs.Stages.{versionOf};
+ghost use Rattle.theory.specs.Stages.{versionIn, Known};
 ghost use Rattle.image_string.specs.Decides.{Decides};
 ghost use Rattle.check_header.specs.Told.{RunsFit, HeaderIs};
 use image_layout::Layout;
@@ -11,13 +11,22 @@ use image_layout::layout_of;
 use image_string::all_zero;
 use image_words::word;
 use meaning::MOST_NODES;
+use meaning::TREE_ALONE;
+use meaning::WITH_METRES;
 
 // Is the image of a version that is known here?
 pub fn version_known(b: &[u8]) -> bool
     requires { ⌜ 4 ≤ length (now b) ⌝ }
-    ensures { λ r. ⌜ Decides r (versionOf (now (b .entry)) ≡ 1) ⌝ }
+    ensures { λ r. ⌜ Decides r (Known (versionIn (now (b .entry)))) ⌝ }
 {
-    word(b, 0) == 1
+    let version = word(b, 0);
+    if version < TREE_ALONE {
+        return false;
+    }
+    if WITH_METRES < version {
+        return false;
+    }
+    true
 }
 
 // What block 0 says after its version: the layout of an image with right numbers and reserved
@@ -66,7 +75,7 @@ pub fn read_header(b: &[u8], blocks: usize) -> HeaderFound
     if word(b, 12) as usize != blocks {
         return HeaderFound::Wrong;
     }
-    let layout = layout_of(n, m);
+    let layout = layout_of(word(b, 0), n, m);
     if layout.blocks as usize != blocks {
         return HeaderFound::Wrong;
     }

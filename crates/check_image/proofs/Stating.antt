@@ -1,5 +1,5 @@
 -- What the check finds, from what its parts tell of bytes whose size and sums are right.
-use mathlib.Core.Path.{_≡_, refl, ap, _∙_, sym}
+use mathlib.Core.Path.{_≡_, refl, sym, subst}
 use mathlib.Core.Bool.{Bool, true, false}
 use mathlib.Core.List.{List}
 use Prim.Native.Nat.{ℕ, _^_, _≤_, _<_}
@@ -12,7 +12,7 @@ use Rattle.meaning.specs.Image.{headerWord}
 use Rattle.meaning.specs.Faults.{isHeader}
 use Rattle.meaning.specs.Tests.{wrongSize}
 use Rattle.theory.specs.Layout.{AreBytes}
-use Rattle.theory.specs.Stages.{versionOf, Header, Stages}
+use Rattle.theory.specs.Stages.{versionIn, Known, Header, Stages}
 use Rattle.theory.proofs.Faults.{version-at, header-right, right-header}
 use Rattle.image_found.specs.declared.Checked.the-variants.{Sound, Refused}
 use Rattle.image_found.specs.declared.Fault.the-variants as Fault
@@ -34,12 +34,12 @@ module _ (bytes : List ℕ) (are : AreBytes bytes) (sized : ImageSized (length b
   small : blocksIn bytes < 2 ^ 32
   small = omega (arith, sized .most)
 
-  pub other-version : (versionOf bytes ≡ 1 → ⊥) → Refused (numbered Fault.Version) ≡ checked bytes
-  other-version wrong = found-version bytes right whole (λ e. wrong (sym (version-at bytes long) ∙ e))
+  pub other-version : (Known (versionIn bytes) → ⊥) → Refused (numbered Fault.Version) ≡ checked bytes
+  other-version wrong = found-version bytes right whole (λ e. wrong (subst Known (version-at bytes long) e))
 
-  module _ (version : versionOf bytes ≡ 1) where
-    known : headerWord bytes 0 ≡ 1
-    known = version-at bytes long ∙ version
+  module _ (version : Known (versionIn bytes)) where
+    known : Known (headerWord bytes 0)
+    known = subst Known (sym (version-at bytes long)) version
 
     pub wrong-header : (Header bytes → ⊥) → Refused (numbered Fault.Header) ≡ checked bytes
     wrong-header wrong = go (isHeader bytes) refl

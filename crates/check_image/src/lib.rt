@@ -4,7 +4,7 @@ ghost use Rattle.image_found.specs.Checked.{checked};
 use check_header::HeaderFound;
 use check_header::read_header;
 use check_header::version_known;
-use check_stages::strings_pass;
+use check_stages::stages_pass;
 use check_sums::wrong_block;
 use fault_of_image::what_is_wrong;
 use image_found::Checked;
@@ -34,7 +34,7 @@ pub fn check(b: &[u8]) -> Checked
     let HeaderFound::Right(layout) = header else {
         return refused_by(Fault::Header);
     };
-    if strings_pass(b, layout) {
+    if stages_pass(b, layout) {
         return Checked::Sound(layout);
     }
     // only now is it worth a second pass, in the order of the codes

@@ -1,15 +1,16 @@
-// One sample: does it name the right bit? And are the words after the last sample zero?
+// One sample: does it name the right bit? And are the words after the last number of a list zero?
 ghost use Prim.Native.Nat.{_+_, _*_, _≤_};
 ghost use lib.ListN.{length};
 ghost use Rattle.theory.specs.Bounds.{mostBlock};
 ghost use Rattle.meaning.specs.Strings.{ones};
 ghost use Rattle.meaning.specs.Bytes.{bitsFrom};
 ghost use Rattle.theory.specs.Layout.{wordAt};
-ghost use Rattle.theory.specs.Stages.{blocksOfSamples};
+ghost use Rattle.theory.specs.Stages.{wordBlocks, blocksOfSamples};
 ghost use Rattle.image_string.specs.Decides.{Decides};
 ghost use Rattle.check_sample_table.specs.Table.{CountsBefore};
-ghost use Rattle.check_sample.specs.Words.{bitsIn, NamesOne, RestZero};
+ghost use Rattle.check_sample.specs.Words.{bitsIn, NamesOne, ListEnds, RestZero};
 use bits_count::ones_ending;
+use image_layout::samples_of;
 use image_string::all_zero;
 use image_words::word;
 
@@ -52,6 +53,21 @@ pub fn sample_right(b: &[u8], p: usize, piece: Piece, nth: usize, table: &[u32; 
     table[o / 64] as usize + upto == nth
 }
 
+// Are the words zero that come after `count` numbers, in the blocks that they take from `block` on?
+pub fn list_ended(b: &[u8], block: usize, count: usize) -> bool
+    requires { ⌜ count ≤ 65535 ⌝ }
+    requires { ⌜ block ≤ mostBlock ⌝ }
+    requires { ⌜ 512 * (block + wordBlocks count) ≤ length (now b) ⌝ }
+    ensures { λ r. ⌜ Decides r (ListEnds (now (b .entry)) block count) ⌝ }
+{
+    // the last block is full
+    if count % 126 == 0 {
+        return true;
+    }
+    let at = 512 * (block + count / 126);
+    all_zero(b, at + 4 * (count % 126), at + 504)
+}
+
 // Are the words of the samples' blocks zero after the last sample of m ones?
 pub fn words_zero(b: &[u8], samples: usize, m: u32) -> bool
     requires { ⌜ m ≤ 65536 ⌝ }
@@ -59,11 +75,5 @@ pub fn words_zero(b: &[u8], samples: usize, m: u32) -> bool
     requires { ⌜ 512 * (samples + blocksOfSamples m) ≤ length (now b) ⌝ }
     ensures { λ r. ⌜ Decides r (RestZero (now (b .entry)) samples m) ⌝ }
 {
-    let count = (m as usize + 63) / 64;
-    // the last block is full
-    if count % 126 == 0 {
-        return true;
-    }
-    let at = 512 * (samples + count / 126);
-    all_zero(b, at + 4 * (count % 126), at + 504)
+    list_ended(b, samples, samples_of(m as usize))
 }

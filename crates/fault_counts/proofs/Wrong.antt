@@ -1,5 +1,5 @@
 -- The lowest block with a wrong count or unused payload that is not zero, from the tests of its
--- string, or of the words after its samples.
+-- string, or of the words after a list of numbers.
 use mathlib.Core.Path.{_≡_, ap, sym, _∙_}
 use mathlib.Core.List.{List}
 use Prim.Native.Nat.{ℕ, _+_, _-_, _*_, _/_, _%_, _≤_, _<_}
@@ -8,12 +8,13 @@ use Rattle.meaning.specs.Strings.{ones}
 use Rattle.meaning.specs.Bytes.{bitAt}
 use Rattle.meaning.specs.Image.{stringBlocks, stringIn}
 use Rattle.theory.specs.Layout.{wordAt, bitPlace, samplePlace}
-use Rattle.theory.specs.Stages.{blocksOfSamples}
+use Rattle.theory.specs.Stages.{wordBlocks}
 use Rattle.theory.specs.Faults.{LowestWrong, none, here, BlockKept, RestKept}
 use Rattle.theory.proofs.Stages.{kept-blocks}
 use Rattle.image_string.specs.Parts.{Counted, Unused}
 use Rattle.image_string.proofs.Blanks.{kept}
-use Rattle.check_sample.specs.Words.{RestZero}
+use Rattle.check_sample.specs.Words.{ListEnds}
+use Rattle.check_sample.proofs.Ending.{ends-kept}
 use Rattle.fault_strings.specs.Given.{CountKept}
 
 module _ (bytes : List ℕ) (first n : ℕ) (some : 1 ≤ n) where
@@ -45,21 +46,17 @@ module _ (bytes : List ℕ) (first n : ℕ) (some : 1 ≤ n) where
   pub none-wrong : (r : ℕ) → Counted bytes first n → Unused bytes (512 * (first + last) + 4) (n - 4000 * last) → r ≡ 0 → Lowest r
   none-wrong r counted unused e = none e (kept-blocks bytes first n (kept bytes first n some counted unused))
 
-module _ (bytes : List ℕ) (from m : ℕ) where
-  rest-kept : RestZero bytes from m → (j : ℕ) → j < blocksOfSamples m → RestKept bytes from m j
-  rest-kept z j h w g over =
-      ap (wordAt bytes) (let e : 512 * (from + j) + 4 * w ≡ samplePlace from (126 * j + w) = omega arith in e) ∙ z (126 * j + w) over (omega arith)
+module _ (bytes : List ℕ) (from k : ℕ) where
+  pub none-after : (r : ℕ) → ListEnds bytes from k → r ≡ 0 → LowestWrong (RestKept bytes from k) from (wordBlocks k) r
+  none-after r z e = none e (ends-kept bytes from k z)
 
-  pub none-after : (r : ℕ) → RestZero bytes from m → r ≡ 0 → LowestWrong (RestKept bytes from m) from (blocksOfSamples m) r
-  none-after r z e = none e (rest-kept z)
-
-  -- only the last block has words after the samples
-  full-rest : (j : ℕ) → j + 1 < blocksOfSamples m → RestKept bytes from m j
+  -- only the last block has words after the list
+  full-rest : (j : ℕ) → j + 1 < wordBlocks k → RestKept bytes from k j
   full-rest j h w g over = absurd (omega arith)
 
-  pub wrong-after : (r : ℕ) → 1 ≤ m → (RestZero bytes from m → ⊥) → r ≡ from + (blocksOfSamples m - 1) → LowestWrong (RestKept bytes from m) from (blocksOfSamples m) r
+  pub wrong-after : (r : ℕ) → 1 ≤ k → (ListEnds bytes from k → ⊥) → r ≡ from + (wordBlocks k - 1) → LowestWrong (RestKept bytes from k) from (wordBlocks k) r
   wrong-after r some wrong e =
-      let k = blocksOfSamples m - 1 in
-      here k (omega arith) e (λ i l. full-rest i (omega arith))
+      let last = wordBlocks k - 1 in
+      here last (omega arith) e (λ i l. full-rest i (omega arith))
       (λ kept. wrong (λ q h g.
-      ap (wordAt bytes) (let f : samplePlace from q ≡ 512 * (from + k) + 4 * (q % 126) = omega arith in f) ∙ kept (q % 126) (omega arith) (omega arith)))
+      ap (wordAt bytes) (let f : samplePlace from q ≡ 512 * (from + last) + 4 * (q % 126) = omega arith in f) ∙ kept (q % 126) (omega arith) (omega arith)))

@@ -12,18 +12,18 @@ use Rattle.theory.specs.Layout.{AreBytes}
 use Rattle.theory.specs.Stages.{Header, nodesOf, runsOf}
 use Rattle.theory.proofs.Faults.{strings-told, told-strings, strings-staged, staged-strings, kept-R1, kept-R0, rest-S1, rest-S0}
 use Rattle.image_layout.specs.declared.Layout.{Layout}
-use Rattle.image_layout.specs.Layout.{layoutOf}
+use Rattle.image_layout.specs.Layout.{layoutIn}
 use Rattle.image_found.specs.declared.Fault.{Fault}
 use Rattle.image_found.specs.declared.Fault.the-variants.{Strings, Counts, Samples}
 use Rattle.image_found.specs.Checked.{faultIn}
 use Rattle.fault_strings.specs.Given.{StringsGiven}
 use Rattle.fault_samples.specs.AllBut.{AllButSamples}
 
-module _ (bytes : List ℕ) (layout : Layout) (are : AreBytes bytes) (is : layout ≡ layoutOf (nodesOf bytes) (runsOf bytes)) (h : Header bytes) where
+module _ (bytes : List ℕ) (layout : Layout) (are : AreBytes bytes) (is : layout ≡ layoutIn bytes) (h : Header bytes) where
   long : 504 ≤ length bytes
   long = omega (arith, h .needed)
 
-  pub read : StringsGiven bytes layout → StringsGiven bytes (layoutOf (nodesOf bytes) (runsOf bytes))
+  pub read : StringsGiven bytes layout → StringsGiven bytes (layoutIn bytes)
   read = subst (StringsGiven bytes) is
 
   strings-are : StringsGiven bytes layout → areStrings bytes ≡ true

@@ -1,8 +1,8 @@
 // What is wrong with an image that the check refuses, its header being right: the second pass, in
 // the order of the codes.
 ghost use mathlib.Core.Path.{_≡_};
-ghost use Rattle.theory.specs.Stages.{Header, nodesOf, runsOf};
-ghost use Rattle.image_layout.specs.Layout.{layoutOf};
+ghost use Rattle.theory.specs.Stages.{Header};
+ghost use Rattle.image_layout.specs.Layout.{layoutIn};
 ghost use Rattle.image_layout.specs.Fits.{LaidOut};
 ghost use Rattle.image_found.specs.Checked.{faultIn};
 use fault_counts::wrong_counts;
@@ -16,7 +16,7 @@ use image_layout::Layout;
 // none of this left over, since it stops at the first thing that it finds.
 pub fn what_is_wrong(b: &[u8], layout: Layout) -> Fault
     requires { ⌜ LaidOut (now b) layout ⌝ }
-    requires { ⌜ layout ≡ layoutOf (nodesOf (now b)) (runsOf (now b)) ⌝ }
+    requires { ⌜ layout ≡ layoutIn (now b) ⌝ }
     requires { ⌜ Header (now b) ⌝ }
     ensures { λ r. ⌜ r ≡ faultIn (now (b .entry)) ⌝ }
 {

@@ -11,7 +11,7 @@ use Rattle.meaning.specs.Image.{samples, stringIn}
 use Rattle.meaning.specs.Faults.{wrongSample}
 use Rattle.theory.specs.Rank.{position}
 use Rattle.theory.specs.Layout.{AreBytes, wordAt, samplePlace, sampleIn, sampleWord}
-use Rattle.theory.specs.Stages.{blocksOfSamples, nodesOf, runsOf, r0Block, r1Samples, readR1, readR0, CountsAndPadding}
+use Rattle.theory.specs.Stages.{samplesOf, blocksOfSamples, nodesOf, runsOf, r0Block, r1Samples, readR1, readR0, CountsAndPadding}
 use Rattle.theory.specs.Faults.{LowestWrong, none, here, RestKept, BlockSampled}
 use Rattle.theory.proofs.Navigate.{one-there, place-of-one}
 use Rattle.theory.proofs.Payloads.{length-samples, sample-at}
@@ -21,7 +21,7 @@ use Rattle.image_string.specs.Parts.{onesTo}
 use Rattle.image_string.proofs.Ones.{onesTo-mono, onesTo-take, string-at}
 use Rattle.check_counts_and_samples.specs.Samples.{SampledWithin}
 use Rattle.image_layout.specs.declared.Layout.{Layout}
-use Rattle.image_layout.specs.Layout.{layoutOf}
+use Rattle.image_layout.specs.Layout.{layoutIn}
 use Rattle.image_layout.specs.Fits.{LaidOut}
 use Rattle.fault_samples.specs.AllBut.{AllButSamples}
 
@@ -67,7 +67,7 @@ module _ (bytes : List ℕ) (from m : ℕ) (r : List Bit) (count : m ≡ ones r)
   unfolding sampleWord
   right-word j w h l e = at-word j w h ∙ e ∙ sym (sample-at r (126 * j + w) (omega (arith, length-samples r)))
 
-  pub none-wrong : (x : ℕ) → SampledTo bytes from r ((m + 63) / 64) → ((j : ℕ) → j < blocksOfSamples m → RestKept bytes from m j) → x ≡ 0
+  pub none-wrong : (x : ℕ) → SampledTo bytes from r ((m + 63) / 64) → ((j : ℕ) → j < blocksOfSamples m → RestKept bytes from (samplesOf m) j) → x ≡ 0
       → LowestWrong (BlockSampled bytes from r) from (blocksOfSamples m) x
   unfolding sampleWord
   none-wrong x f rest e = none e (λ j h w g. elim (decLt (126 * j + w) ((m + 63) / 64)) [
@@ -88,14 +88,14 @@ module _ (bytes : List ℕ) (from m : ℕ) (r : List Bit) (count : m ≡ ones r)
 
 -- ---- of both
 
-module _ (bytes : List ℕ) (layout : Layout) (are : AreBytes bytes) (laid : LaidOut bytes layout) (is : layout ≡ layoutOf (nodesOf bytes) (runsOf bytes)) (right : AllButSamples bytes) where
+module _ (bytes : List ℕ) (layout : Layout) (are : AreBytes bytes) (laid : LaidOut bytes layout) (is : layout ≡ layoutIn bytes) (right : AllButSamples bytes) where
   abbrev n : ℕ
   n = nodesOf bytes
 
   abbrev m : ℕ
   m = runsOf bytes
 
-  fits : LaidOut bytes (layoutOf n m)
+  fits : LaidOut bytes (layoutIn bytes)
   fits = subst (LaidOut bytes) is laid
 
   long : 504 ≤ length bytes
@@ -103,17 +103,17 @@ module _ (bytes : List ℕ) (layout : Layout) (are : AreBytes bytes) (laid : Lai
 
   -- what the walk through each string's samples needs
   pub needed1 : (layout .runs ≡ ones (stringIn bytes 1 0 (layout .nodes))) × CountsAndPadding bytes 1 (stringIn bytes 1 0 (layout .nodes))
-      × ((j : ℕ) → j < blocksOfSamples (layout .runs) → RestKept bytes (layout .«r1_samples») (layout .runs) j)
+      × ((j : ℕ) → j < blocksOfSamples (layout .runs) → RestKept bytes (layout .«r1_samples») (samplesOf (layout .runs)) j)
   needed1 =
       subst (λ (x : Layout). (x .runs ≡ ones (stringIn bytes 1 0 (x .nodes))) × CountsAndPadding bytes 1 (stringIn bytes 1 0 (x .nodes))
-      × ((j : ℕ) → j < blocksOfSamples (x .runs) → RestKept bytes (x .«r1_samples») (x .runs) j)) (sym is) (sym (right .ended1 .count), right .kept1, right .rest1)
+      × ((j : ℕ) → j < blocksOfSamples (x .runs) → RestKept bytes (x .«r1_samples») (samplesOf (x .runs)) j)) (sym is) (sym (right .ended1 .count), right .kept1, right .rest1)
 
   pub needed0 : (layout .runs ≡ ones (stringIn bytes (layout .«r0_block») 0 (layout .nodes + 1)))
       × CountsAndPadding bytes (layout .«r0_block») (stringIn bytes (layout .«r0_block») 0 (layout .nodes + 1))
-      × ((j : ℕ) → j < blocksOfSamples (layout .runs) → RestKept bytes (layout .«r0_samples») (layout .runs) j)
+      × ((j : ℕ) → j < blocksOfSamples (layout .runs) → RestKept bytes (layout .«r0_samples») (samplesOf (layout .runs)) j)
   needed0 =
       subst (λ (x : Layout). (x .runs ≡ ones (stringIn bytes (x .«r0_block») 0 (x .nodes + 1))) × CountsAndPadding bytes (x .«r0_block») (stringIn bytes (x .«r0_block») 0 (x .nodes + 1))
-      × ((j : ℕ) → j < blocksOfSamples (x .runs) → RestKept bytes (x .«r0_samples») (x .runs) j)) (sym is) (sym (right .ended0 .count), right .kept0, right .rest0)
+      × ((j : ℕ) → j < blocksOfSamples (x .runs) → RestKept bytes (x .«r0_samples») (samplesOf (x .runs)) j)) (sym is) (sym (right .ended0 .count), right .kept0, right .rest0)
 
   module _ (w1 : ℕ) (l1 : LowestWrong (BlockSampled bytes (layout .«r1_samples») (stringIn bytes 1 0 (layout .nodes))) (layout .«r1_samples») (blocksOfSamples (layout .runs)) w1) where
     in-S1 : w1 ≡ inSamples bytes (readR1 bytes) (r1Samples n)

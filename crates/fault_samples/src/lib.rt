@@ -6,9 +6,9 @@ ghost use Rattle.theory.specs.Bounds.{mostBlock};
 ghost use Rattle.meaning.specs.Strings.{ones};
 ghost use Rattle.meaning.specs.Image.{stringBlocks, stringIn};
 ghost use Rattle.meaning.specs.Faults.{wrongSample};
-ghost use Rattle.theory.specs.Stages.{blocksOfSamples, nodesOf, runsOf, CountsAndPadding};
+ghost use Rattle.theory.specs.Stages.{samplesOf, blocksOfSamples, CountsAndPadding};
 ghost use Rattle.theory.specs.Faults.{LowestWrong, RestKept, BlockSampled};
-ghost use Rattle.image_layout.specs.Layout.{layoutOf};
+ghost use Rattle.image_layout.specs.Layout.{layoutIn};
 ghost use Rattle.image_layout.specs.Fits.{LaidOut};
 ghost use Rattle.fault_samples.specs.AllBut.{AllButSamples};
 use check_counts_and_samples::blocks_right;
@@ -31,7 +31,7 @@ fn wrong_in_samples(b: &[u8], samples: usize, m: u32, bits_block: usize, n: usiz
     requires { ⌜ 512 * («bits_block» + stringBlocks n) ≤ length (now b) ⌝ }
     requires { ⌜ 512 * (samples + blocksOfSamples m) ≤ length (now b) ⌝ }
     requires { ⌜ CountsAndPadding (now b) «bits_block» (stringIn (now b) «bits_block» 0 n) ⌝ }
-    requires { ⌜ ((j : ℕ) → j < blocksOfSamples m → RestKept (now b) samples m j) ⌝ }
+    requires { ⌜ ((j : ℕ) → j < blocksOfSamples m → RestKept (now b) samples (samplesOf m) j) ⌝ }
     ensures { λ r. ⌜ LowestWrong (BlockSampled (now (b .entry)) samples (stringIn (now (b .entry)) «bits_block» 0 n)) samples (blocksOfSamples m) r ⌝ }
 {
     let count = (m as usize + 63) / 64;
@@ -56,7 +56,7 @@ fn wrong_in_samples(b: &[u8], samples: usize, m: u32, bits_block: usize, n: usiz
 // right; 0 if there is none.
 pub fn wrong_samples(b: &[u8], layout: Layout) -> u32
     requires { ⌜ LaidOut (now b) layout ⌝ }
-    requires { ⌜ layout ≡ layoutOf (nodesOf (now b)) (runsOf (now b)) ⌝ }
+    requires { ⌜ layout ≡ layoutIn (now b) ⌝ }
     requires { ⌜ AllButSamples (now b) ⌝ }
     ensures { λ r. ⌜ r ≡ wrongSample (now (b .entry)) ⌝ }
 {

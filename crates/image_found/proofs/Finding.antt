@@ -5,6 +5,7 @@ use mathlib.Core.Bool.{Bool, true, false, cond, not, _||_}
 use mathlib.Core.List.{List, [], _∷_, _++_}
 use mathlib.Core.Logic.{_↔_}
 use Prim.Native.Nat.{ℕ, zero, suc, _+_, _*_, _/_, _%_, _≤_}
+use native.Mathlib.Decide.{decLt}
 use native.Mathlib.Omega.{arith}
 use borrow.Author.Tests.{not-false, le-ltb, lt-ltb, ltb-false}
 use lib.Dec.{ltb, eqb}
@@ -20,9 +21,9 @@ use Rattle.meaning.specs.Answers.{Row, _at_when_, Outcome, refusedWith, cameTo,
 use Rattle.meaning.specs.Tests.{outside, wrongSize, checkRows}
 use Rattle.theory.specs.Rows.{NoneHolds}
 use Rattle.theory.specs.Layout.{AreBytes}
-use Rattle.theory.specs.Stages.{Stages}
+use Rattle.theory.specs.Stages.{Known, Stages}
 use Rattle.theory.proofs.Codes.{neither, not-unequal, not-outside}
-use Rattle.theory.proofs.Settled.{or-first, or-neither, unequal, equal, first-none, first-here, first-on, none-first, settle-append}
+use Rattle.theory.proofs.Settled.{or-first, or-neither, below, beyond, between, first-none, first-here, first-on, none-first, settle-append}
 use Rattle.theory.proofs.Stages.{image-stages, stages-image}
 use Rattle.theory.proofs.NoFault.{NoFault, faultless}
 use Rattle.image_layout.specs.declared.Layout.{Layout}
@@ -53,6 +54,15 @@ wrong-most bytes = omega (arith, wrong-from sumStart (cut (blocksIn bytes) 512 b
 
 -- ---- what is found
 
+unknown : (v : ℕ) → (Known v → ⊥) → outside 1 2 v ≡ true
+unknown v e = elim (decLt v 1) [
+  | yes l ↦ below 1 2 v l
+  | no l ↦ elim (decLt 2 v) [
+    | yes g ↦ beyond 1 2 v g
+    | no g ↦ absurd (e (record { some = omega arith; most = omega arith }))
+  ]
+]
+
 abbrev refused : ℕ → ℕ → Checked
 refused c p = Refused (record { code = c; place = p })
 
@@ -64,7 +74,7 @@ module _ (bytes : List ℕ) where
   sums = 6 at wrongBlock bytes when ltb (wrongBlock bytes) (blocksIn bytes)
 
   abbrev version : Row
-  version = 11 at 0 when not (eqb (headerWord bytes 0) 1)
+  version = 11 at 0 when outside 1 2 (headerWord bytes 0)
 
   abbrev header : Row
   header = 12 at 0 when not (isHeader bytes)
@@ -109,12 +119,12 @@ module _ (bytes : List ℕ) where
       summed : firstHolding (size ∷ sums ∷ from11) ≡ firstHolding from11
       summed = sized ∙ first-on sums from11 whole
 
-      pub found-version : (headerWord bytes 0 ≡ 1 → ⊥) → Refused (numbered Version) ≡ checked bytes
-      found-version e = by-rows _ (summed ∙ first-here version from12 (unequal (headerWord bytes 0) 1 e))
+      pub found-version : (Known (headerWord bytes 0) → ⊥) → Refused (numbered Version) ≡ checked bytes
+      found-version e = by-rows _ (summed ∙ first-here version from12 (unknown (headerWord bytes 0) e))
 
-      module _ (known : headerWord bytes 0 ≡ 1) where
+      module _ (known : Known (headerWord bytes 0)) where
         versioned : firstHolding (size ∷ sums ∷ from11) ≡ firstHolding from12
-        versioned = summed ∙ first-on version from12 (equal (headerWord bytes 0) 1 known)
+        versioned = summed ∙ first-on version from12 (between 1 2 (headerWord bytes 0) (known .some) (known .most))
 
         pub found-header : isHeader bytes ≡ false → Refused (numbered Header) ≡ checked bytes
         found-header e = by-rows _ (versioned ∙ first-here header from13 (ap not e))
@@ -203,15 +213,15 @@ clash e = let z : _≡_ {A = ℕ} 0 1 = cc in absurd (omega arith)
 pub held-image : (bytes : List ℕ) → NoneHolds (checkRows bytes false) → isImage bytes ≡ true
 unfolding checkRows
 held-image bytes n =
-    let size = neither (not (eqb (length bytes % 512) 0)) (outside 5 53 (length bytes / 512)) (neither (wrongSize bytes) false (n .0) .0) in
+    let size = neither (not (eqb (length bytes % 512) 0)) (outside 5 574 (length bytes / 512)) (neither (wrongSize bytes) false (n .0) .0) in
     let rows = n .1 .1 in
     let kept = ltb-false 0 (wrongKept bytes) (rows .1 .1 .1 .0) in
     let samples = ltb-false 0 (wrongSample bytes) (rows .1 .1 .1 .1 .0) in
     let whole = not-unequal (length bytes % 512) 0 (size .0) in
-    let some = not-outside 5 53 (length bytes / 512) (size .1) .0 in
+    let some = not-outside 5 574 (length bytes / 512) (size .1) .0 in
     without-fault bytes (omega arith) some (ltb-false (wrongBlock bytes) (blocksIn bytes) (n .1 .0)) .1
     (record {
-      version = not-unequal (headerWord bytes 0) 1 (rows .0);
+      version = let k = not-outside 1 2 (headerWord bytes 0) (rows .0) in record { some = k .0; most = k .1 };
       header = not-false (isHeader bytes) (rows .1 .0);
       strings = not-false (areStrings bytes) (rows .1 .1 .0);
       kept = omega arith;

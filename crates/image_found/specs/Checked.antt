@@ -11,17 +11,12 @@ use Rattle.meaning.specs.declared.Verdict.the-variants as Verdict
 use Rattle.meaning.specs.Answers.{refusedWith, counts, firstHolding}
 use Rattle.meaning.specs.Tests.{checkRows}
 use Rattle.meaning.specs.Faults.{areStrings, wrongKept, wrongSample}
-use Rattle.theory.specs.Stages.{nodesOf, runsOf}
-use Rattle.image_layout.specs.Layout.{layoutOf}
+pub use Rattle.image_layout.specs.Layout.{layoutIn}
 use Rattle.image_layout.specs.declared.Layout.{Layout}
 use Rattle.image_found.specs.declared.Checked.{Checked}
 use Rattle.image_found.specs.declared.Checked.the-variants.{Sound, Refused}
 use Rattle.image_found.specs.declared.Fault.{Fault}
 use Rattle.image_found.specs.declared.Fault.the-variants.{Version, Header, Strings, Counts, Samples}
-
--- the layout by n and m as the header has them
-abbrev pub layoutIn : List ℕ → Layout
-layoutIn bytes = layoutOf (nodesOf bytes) (runsOf bytes)
 
 -- a layout, unless some row refuses it
 abbrev pub foundBy : Verdict → Layout → Checked

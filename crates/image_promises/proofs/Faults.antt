@@ -2,32 +2,35 @@
 use mathlib.Core.Path.{_≡_, refl, sym, ap, ap₂, _∙_, subst}
 use mathlib.Core.Bool.{Bool, true, false, true≢false, cond, not, _&&_}
 use mathlib.Core.List.{List, [], _∷_, _++_}
+use mathlib.Core.Option.{Option, none, some}
 use mathlib.Core.Logic.{inl, inr, _↔_}
-use Prim.Native.Nat.{ℕ, _+_, _*_, _/_, _%_, _≤_}
+use Prim.Native.Nat.{ℕ, zero, suc, _+_, _*_, _/_, _%_, _≤_}
+use native.Mathlib.Decide.{decLt}
 use native.Mathlib.Omega.{arith}
-use borrow.Author.Tests.{not-false, le-ltb, eqb-true, eq-eqb}
+use borrow.Author.Tests.{not-false, le-ltb}
 use lib.Dec.{ltb, eqb}
-use lib.ListN.{length, getD, take}
+use lib.ListN.{length, getD, take, replicate, length-replicate}
 use Rattle.meaning.specs.Trees.{Tree, nodes}
 use Rattle.meaning.specs.Strings.{ones, lbs, R1, R0, parentsOf, stringOf, woven}
 use Rattle.meaning.specs.Blocks.{wordBytes, words, padded, same, blocksIn, wrongBlock}
-use Rattle.meaning.specs.Image.{blocksNeeded, image, headerWord, parentsIn}
-use Rattle.meaning.specs.Faults.{someTree, isHeader, areStrings, wrongKept, wrongSample}
+use Rattle.meaning.specs.Image.{Content, Measured, FitImage, versionOf, listOf, metresHeld, blocksNeeded, image, headerWord, parentsIn, metresIn}
+use Rattle.meaning.specs.Faults.{someTree, isHeader, r1In, r0In, areStrings, wrongKept, wrongSample}
 use Rattle.meaning.specs.declared.Answer.{Answer}
 use Rattle.meaning.specs.Answers.{Row, _at_when_, refusedWith, cameTo, counts, settle}
 use Rattle.meaning.specs.Tests.{outside, wrongSize, checkRows}
 use Rattle.calls.specs.Calls.{checkImage}
 use Rattle.theory.specs.Rows.{NoneHolds}
-use Rattle.theory.proofs.Settled.{unequal, equal, or-neither, settle-here, settle-on, settle-none}
+use Rattle.theory.proofs.Settled.{between, or-neither, settle-here, settle-on, settle-none}
 use Rattle.theory.proofs.Codes.{neither, not-unequal, not-outside, Others, upper-none, row-held, settle-first}
 use Rattle.theory.specs.Layout.{total}
-use Rattle.theory.specs.Stages.{nodesOf, runsOf}
+use Rattle.theory.specs.Stages.{nodesOf, runsOf, versionIn, Known}
 use Rattle.theory.proofs.Navigate.{parents-bits}
 use Rattle.theory.proofs.Forms.{length-R1, length-R0, string-parts, marks-same}
 use Rattle.theory.proofs.Payloads.{length-samples}
-use Rattle.theory.proofs.Images.{length-blocks, payload-head}
-use Rattle.theory.proofs.TreeImages.{length-stringIn, image-size, image-least, tree-laid}
-use Rattle.theory.proofs.Faults.{headerOf, nodes-at, runs-at, header-told, strings-told, told-strings}
+use Rattle.theory.proofs.Images.{measured-held, length-blocks, payload-head}
+use Rattle.theory.proofs.TreeImages.{length-stringIn, words-measured, image-size, image-least, tree-laid}
+use Rattle.theory.proofs.Stages.{metres-version}
+use Rattle.theory.proofs.Faults.{headerOf, version-at, nodes-at, runs-at, header-told, strings-told, told-strings}
 use Rattle.theory.proofs.NoFault.{NoFault, image-payload, image-faultless}
 use Rattle.image_found.specs.declared.Checked.the-variants.{Refused}
 use Rattle.image_found.specs.declared.Fault.{Fault}
@@ -43,7 +46,7 @@ use Rattle.image_promises.specs.Faults.{Checks, Refuses, HasHeader, HasS
 
 module _ (bytes : List ℕ) (checks : Checks bytes) where
   abbrev version : Row
-  version = 11 at 0 when not (eqb (headerWord bytes 0) 1)
+  version = 11 at 0 when outside 1 2 (headerWord bytes 0)
 
   abbrev header : Row
   header = 12 at 0 when not (isHeader bytes)
@@ -101,17 +104,22 @@ module _ (bytes : List ℕ) (checks : Checks bytes) where
 
 -- ---- what a tree's own image has
 
-module _ (t : Tree) (few : nodes t ≤ 65535) where
-  own : NoFault (image t)
-  own = image-faultless t few
+module _ (c : Content) (fit : FitImage c) where
+  own : NoFault (image c)
+  own = image-faultless c fit
 
-  own-long : 504 ≤ length (image t)
-  own-long = omega (arith, image-size t, image-least t)
+  own-long : 504 ≤ length (image c)
+  own-long = omega (arith, image-size c, image-least c)
 
-  own-runs : headerWord (image t) 2 ≡ ones (R1 (lbs t))
-  own-runs = runs-at (image t) own-long ∙ tree-laid t few .head 2 (omega arith)
+  own-runs : headerWord (image c) 2 ≡ ones (R1 (lbs (c .tree)))
+  own-runs = runs-at (image c) own-long ∙ tree-laid c fit .head 2 (omega arith)
 
 -- ---- headers
+
+pub zero-at : (n i : ℕ) → _≡_ {A = ℕ} (getD (replicate n 0) i 0) 0
+zero-at zero i = refl
+zero-at (suc n) zero = refl
+zero-at (suc n) (suc i) = zero-at n i
 
 -- the test of the header looks at the first 504 bytes and the length
 same-header : (x y : List ℕ) → take 504 x ≡ take 504 y → length x ≡ length y → isHeader x ≡ isHeader y
@@ -120,7 +128,7 @@ same-header x y =
     ap₂ (λ h l.
     let n = getD (words h) 1 0 in
     let m = getD (words h) 2 0 in
-    someTree n m && eqb (blocksNeeded n m) (l / 512) && same (padded (wordBytes (getD (words h) 0 0 ∷ n ∷ m ∷ l / 512 ∷ []))) h)
+    someTree n m && eqb (blocksNeeded (getD (words h) 0 0) n m) (l / 512) && same (padded (wordBytes (getD (words h) 0 0 ∷ n ∷ m ∷ l / 512 ∷ []))) h)
 
 same-word : (x y : List ℕ) (w : ℕ) → take 504 x ≡ take 504 y → headerWord x w ≡ headerWord y w
 unfolding headerWord
@@ -129,66 +137,86 @@ same-word x y w = ap (λ h. getD (words h) w 0)
 module _ (bytes : List ℕ) (checks : Checks bytes) where
   pub sizes : (length bytes ≡ 512 * blocksIn bytes) × (504 ≤ length bytes)
   sizes =
-      let n = neither (not (eqb (length bytes % 512) 0)) (outside 5 53 (length bytes / 512)) (checks .size) in
+      let n = neither (not (eqb (length bytes % 512) 0)) (outside 5 574 (length bytes / 512)) (checks .size) in
       let whole = not-unequal (length bytes % 512) 0 (n .0) in
-      let some = not-outside 5 53 (length bytes / 512) (n .1) in
+      let some = not-outside 5 574 (length bytes / 512) (n .1) in
       (omega arith, omega (arith, some .0))
 
   abbrev long : 504 ≤ length bytes
   long = sizes .1
 
   -- a header that some tree has is right
-  pub has-version : (t : Tree) → HasHeader t bytes → headerWord bytes 0 ≡ 1
-  has-version t h = sym (same-word (image t) bytes 0 (h .same)) ∙ own t (h .few) .version
+  pub has-version : (c : Content) → HasHeader c bytes → Known (headerWord bytes 0)
+  has-version c h = subst Known (same-word (image c) bytes 0 (h .same)) (own c (h .fit) .version)
 
-  pub has-header : (t : Tree) → HasHeader t bytes → isHeader bytes ≡ true
-  has-header t h = sym (same-header (image t) bytes (h .same) (h .long)) ∙ own t (h .few) .header
+  pub has-header : (c : Content) → HasHeader c bytes → isHeader bytes ≡ true
+  has-header c h = sym (same-header (image c) bytes (h .same) (h .long)) ∙ own c (h .fit) .header
 
-  -- a tree with this n and m has this header
-  tree-header : headerWord bytes 0 ≡ 1 → isHeader bytes ≡ true → (t : Tree) → nodes t ≡ nodesOf bytes → ones (R1 (lbs t)) ≡ runsOf bytes → HasHeader t bytes
-  tree-header version right t n m =
+  -- a tree with this n and m, and metres as the version says, has this header
+  tree-header : isHeader bytes ≡ true → (c : Content) → FitImage c → versionOf (c .metres) ≡ versionIn bytes → nodes (c .tree) ≡ nodesOf bytes → ones (R1 (lbs (c .tree))) ≡ runsOf bytes
+      → HasHeader c bytes
+  tree-header right c fit v n m =
       let told = header-told bytes long right in
+      let t = c .tree in
+      let ms = c .metres in
       let a = R1 (lbs t) in
       let b = R0 (lbs t) in
-      let few : nodes t ≤ 65535 = omega (arith, told .most) in
-      let total-is : total a b ≡ blocksIn bytes = omega (arith, length-R1 t, length-R0 t, length-samples a, length-samples b, marks-same t, told .needed) in
-      let words-are : wordBytes (1 ∷ length a ∷ ones a ∷ total a b ∷ []) ≡ headerOf bytes =
-      ap₂ (λ v k. wordBytes (v ∷ k ∷ ones a ∷ total a b ∷ [])) (sym version) (length-R1 t ∙ n ∙ sym (nodes-at bytes long))
-      ∙ ap₂ (λ k c. wordBytes (headerWord bytes 0 ∷ headerWord bytes 1 ∷ k ∷ c ∷ [])) (m ∙ sym (runs-at bytes long)) total-is in
+      let held : length (listOf ms) ≡ metresHeld (versionIn bytes) (nodesOf bytes) = measured-held (nodes t) ms (fit .measured) ∙ ap₂ metresHeld v n in
+      let total-is : total ms a b ≡ blocksIn bytes = omega (arith, length-R1 t, length-R0 t, length-samples a, length-samples b, marks-same t, told .needed) in
+      let words-are : wordBytes (versionOf ms ∷ length a ∷ ones a ∷ total ms a b ∷ []) ≡ headerOf bytes =
+      ap₂ (λ v k. wordBytes (v ∷ k ∷ ones a ∷ total ms a b ∷ [])) (v ∙ sym (version-at bytes long)) (length-R1 t ∙ n ∙ sym (nodes-at bytes long))
+      ∙ ap₂ (λ k d. wordBytes (headerWord bytes 0 ∷ headerWord bytes 1 ∷ k ∷ d ∷ [])) (m ∙ sym (runs-at bytes long)) total-is in
       record {
-        few = few;
-        long = image-size t ∙ omega (arith, sizes .0);
-        same = sym (image-payload t few 0 (omega (arith, length-blocks a b, image-least t))) ∙ ap padded (payload-head a b ∙ words-are) ∙ told .words;
+        fit = fit;
+        long = image-size c ∙ omega (arith, sizes .0);
+        same = sym (image-payload c fit 0 (omega (arith, length-blocks ms a b, image-least c))) ∙ ap padded (payload-head ms a b ∙ words-are) ∙ told .words;
       }
 
-  header-tree : headerWord bytes 0 ≡ 1 → isHeader bytes ≡ true → (t : Tree) × HasHeader t bytes
+  -- metres as a version has them: all zero, or none
+  zeros-for : (v n : ℕ) → Known v → (ms : Option (List ℕ)) × Measured n ms × (versionOf ms ≡ v)
+  zeros-for v n known = elim (decLt v 2) [
+    | yes h ↦ (none, tt, omega (arith, known .some))
+    | no h ↦ (some (replicate n 0), (length-replicate {A = ℕ} n 0, λ i l. omega (arith, zero-at n i)), omega (arith, known .most))
+  ]
+
+  header-tree : Known (headerWord bytes 0) → isHeader bytes ≡ true → (c : Content) × HasHeader c bytes
   header-tree version right =
       let told = header-told bytes long right in
       let w = some-tree-has (nodesOf bytes) (runsOf bytes) (told .some) (told .runsSome) (told .runsMost) (told .runsTwo) in
-      (w .0, tree-header version right (w .0) (w .1) (w .2))
+      let z = zeros-for (versionIn bytes) (nodes (w .0)) (subst Known (version-at bytes long) version) in
+      let c : Content = record { tree = w .0; metres = z .0 } in
+      (c, tree-header right c (record { small = omega (arith, told .most, w .1); measured = z .1 }) (z .2) (w .1) (w .2))
 
   -- ---- strings
 
-  pub has-strings : (t : Tree) → HasStrings t bytes → areStrings bytes ≡ true
+  pub has-strings : (c : Content) → HasStrings c bytes → areStrings bytes ≡ true
   unfolding parentsIn parentsOf
-  has-strings t s =
-      let few = s .header .few in
+  has-strings c s =
+      let fit = s .header .fit in
+      let t = c .tree in
       told-strings bytes (record {
         tree = t;
-        few = few;
+        few = fit .small;
         list = parents-bits t ∙ ap parentsOf (sym (string-parts t)) ∙ ap₂ (λ p q. parentsOf (woven p q)) (s .first) (s .second);
         first = s .first;
         second = s .second;
-        runs = ap (λ r. ones r) (sym (s .first)) ∙ sym (own-runs t few) ∙ same-word (image t) bytes 2 (s .header .same);
+        runs = ap (λ r. ones r) (sym (s .first)) ∙ sym (own-runs c fit) ∙ same-word (image c) bytes 2 (s .header .same);
       })
 
-  strings-tree : headerWord bytes 0 ≡ 1 → isHeader bytes ≡ true → areStrings bytes ≡ true → (t : Tree) × HasStrings t bytes
+  -- a tree that has the strings has them with any metres of the version
+  strings-with : Known (headerWord bytes 0) → isHeader bytes ≡ true → (t : Tree) → nodes t ≤ 65535 → R1 (lbs t) ≡ r1In bytes → R0 (lbs t) ≡ r0In bytes → ones (r1In bytes) ≡ headerWord bytes 2
+      → (ms : Option (List ℕ)) → Measured (nodes t) ms → versionOf ms ≡ versionIn bytes → HasStrings (record { tree = t; metres = ms }) bytes
+  strings-with version right t few first second runs ms measured v =
+      let n : nodes t ≡ nodesOf bytes = sym (length-R1 t) ∙ ap length first ∙ length-stringIn bytes 1 0 (headerWord bytes 1) ∙ nodes-at bytes long in
+      let m : ones (R1 (lbs t)) ≡ runsOf bytes = ap (λ r. ones r) first ∙ runs ∙ runs-at bytes long in
+      record { header = tree-header right (record { tree = t; metres = ms }) (record { small = few; measured = measured }) v n m; first = first; second = second }
+
+  strings-tree : Known (headerWord bytes 0) → isHeader bytes ≡ true → areStrings bytes ≡ true → (c : Content) × HasStrings c bytes
   strings-tree version right e =
       let s = strings-told bytes e in
       let t = s .tree in
-      let n : nodes t ≡ nodesOf bytes = sym (length-R1 t) ∙ ap length (s .first) ∙ length-stringIn bytes 1 0 (headerWord bytes 1) ∙ nodes-at bytes long in
-      let m : ones (R1 (lbs t)) ≡ runsOf bytes = ap (λ r. ones r) (s .first) ∙ s .runs ∙ runs-at bytes long in
-      (t, record { header = tree-header version right t n m; first = s .first; second = s .second })
+      let z = zeros-for (versionIn bytes) (nodes t) (subst Known (version-at bytes long) version) in
+      (record { tree = t; metres = z .0 }, strings-with version right t (s .few) (s .first) (s .second) (s .runs) (z .0) (z .1) (z .2))
 
 by-cases : {X : Type 0} (b : Bool) → (b ≡ true → X) → (b ≡ false → X) → X
 by-cases true f g = f refl
@@ -199,18 +227,36 @@ not-true b n = by-cases b (λ e. absurd (n e)) (λ e. ap not e)
 
 -- ---- 11, 12, 13
 
+-- a version is neither 1 nor 2, or it is known
+unknown : (v : ℕ) → outside 1 2 v ≡ true → Known v → ⊥
+unknown v e k = true≢false (sym e ∙ between 1 2 v (k .some) (k .most))
+
+is-known : (v : ℕ) → outside 1 2 v ≡ false → Known v
+is-known v e = let k = not-outside 1 2 v e in record { some = k .0; most = k .1 }
+
+known-in : (v : ℕ) → Known v → outside 1 2 v ≡ false
+known-in v k = between 1 2 v (k .some) (k .most)
+
 pub version-named : P.VersionNamed
 version-named bytes checks = (
-  λ e r. true≢false (sym (given11 bytes checks 0 .0 e .1) ∙ equal (headerWord bytes 0) 1 r),
-  λ wrong. given11 bytes checks 0 .1 (tt, unequal (headerWord bytes 0) 1 wrong, refl),
+  λ e.
+      let wrong = unknown (headerWord bytes 0) (given11 bytes checks 0 .0 e .1) in
+      (λ r. wrong (record { some = omega arith; most = omega arith }), λ r. wrong (record { some = omega arith; most = omega arith })),
+  λ wrong. given11 bytes checks 0 .1 (tt, by-cases (outside 1 2 (headerWord bytes 0)) (λ e. e) (λ e. absurd (neither-is (headerWord bytes 0) (is-known (headerWord bytes 0) e) wrong)), refl),
 )
+  where
+    neither-is : (v : ℕ) → Known v → ((v ≡ 1 → ⊥) × (v ≡ 2 → ⊥)) → ⊥
+    neither-is v k wrong = elim (decLt v 2) [
+      | yes h ↦ wrong .0 (omega (arith, k .some))
+      | no h ↦ wrong .1 (omega (arith, k .most))
+    ]
 
 pub header-named : P.HeaderNamed
 header-named bytes checks = (
   λ e. let g = given12 bytes checks 0 .0 e in
-      (not-unequal (headerWord bytes 0) 1 (g .0 .0), λ t h. true≢false (sym (g .1) ∙ ap not (has-header bytes checks t h))),
+      (is-known (headerWord bytes 0) (g .0 .0), λ c h. true≢false (sym (g .1) ∙ ap not (has-header bytes checks c h))),
   λ w. given12 bytes checks 0 .1 (
-    (equal (headerWord bytes 0) 1 (w .0), tt),
+    (known-in (headerWord bytes 0) (w .0), tt),
     not-true (isHeader bytes) (λ e. let x = header-tree bytes checks (w .0) e in w .1 (x .0) (x .1)),
     refl,
   ),
@@ -219,24 +265,36 @@ header-named bytes checks = (
 pub strings-named : P.StringsNamed
 strings-named bytes checks = (
   λ e. let g = given13 bytes checks 1 .0 e in (
-    header-tree bytes checks (not-unequal (headerWord bytes 0) 1 (g .0 .0)) (not-false (isHeader bytes) (g .0 .1 .0)),
-    λ t h. true≢false (sym (g .1) ∙ ap not (has-strings bytes checks t h)),
+    header-tree bytes checks (is-known (headerWord bytes 0) (g .0 .0)) (not-false (isHeader bytes) (g .0 .1 .0)),
+    λ c h. true≢false (sym (g .1) ∙ ap not (has-strings bytes checks c h)),
   ),
   λ w.
-      let t = w .0 .0 in
-      let v = has-version bytes checks t (w .0 .1) in
-      let r = has-header bytes checks t (w .0 .1) in
+      let c = w .0 .0 in
+      let v = has-version bytes checks c (w .0 .1) in
+      let r = has-header bytes checks c (w .0 .1) in
       given13 bytes checks 1 .1 (
-        (equal (headerWord bytes 0) 1 v, (ap not r, tt)),
+        (known-in (headerWord bytes 0) v, (ap not r, tt)),
         not-true (areStrings bytes) (λ e. let x = strings-tree bytes checks v r e in w .1 (x .0) (x .1)),
         refl,
       ),
 )
 
+pub metres-never-wrong : P.MetresNeverWrong
+metres-never-wrong bytes are checks c s =
+    let v = has-version bytes checks c (s .header) in
+    let l = sizes bytes checks .1 in
+    let told = strings-told bytes (has-strings bytes checks c s) in
+    let n : headerWord bytes 1 ≡ nodes (c .tree) = sym (length-stringIn bytes 1 0 (headerWord bytes 1)) ∙ ap length (sym (s .first)) ∙ length-R1 (c .tree) in
+    record {
+      strings = strings-with bytes checks v (has-header bytes checks c (s .header)) (c .tree) (s .header .fit .small) (s .first) (s .second) (told .runs) (metresIn bytes)
+          (subst (λ k. Measured k (metresIn bytes)) n (words-measured bytes are)) (sym (metres-version bytes l (subst Known (version-at bytes l) v)));
+      metres = refl;
+    }
+
 -- ---- all five
 
 pub refused-by-fault : P.RefusedByFault
-refused-by-fault bytes checks refused = by-version (eqb (headerWord bytes 0) 1) refl
+refused-by-fault bytes checks refused = by-version (outside 1 2 (headerWord bytes 0)) refl
   where
     whole : ltb (wrongBlock bytes) (blocksIn bytes) ≡ false
     whole = le-ltb (wrongBlock bytes) (blocksIn bytes) (omega (arith, checks .sums))
@@ -244,23 +302,23 @@ refused-by-fault bytes checks refused = by-version (eqb (headerWord bytes 0) 1) 
     answer : (f : Fault) → Refused (numbered f) ≡ checked bytes → cameTo (answered (Refused (numbered f))) tt ≡ checkImage bytes
     answer f e = ap (λ c. cameTo (answered c) tt) e ∙ image-answered bytes
 
-    by-header : (b : Bool) → isHeader bytes ≡ b → headerWord bytes 0 ≡ 1 → cameTo (answered (Refused (numbered (cond b (faultIn bytes) Header)))) tt ≡ checkImage bytes
+    by-header : (b : Bool) → isHeader bytes ≡ b → Known (headerWord bytes 0) → cameTo (answered (Refused (numbered (cond b (faultIn bytes) Header)))) tt ≡ checkImage bytes
     by-header true e v =
         answer (faultIn bytes) (found-fault bytes (checks .size) whole v e (λ f.
         refused (ap (λ o. o .answer .code) (sym (image-answered bytes)) ∙ ap (λ c. answered c .code) (sym (found-sound bytes (checks .size) whole v e f)))))
     by-header false e v = answer Header (found-header bytes (checks .size) whole v e)
 
-    by-version : (b : Bool) → eqb (headerWord bytes 0) 1 ≡ b → cameTo (answered (Refused (numbered (faultOf bytes)))) tt ≡ checkImage bytes
+    by-version : (b : Bool) → outside 1 2 (headerWord bytes 0) ≡ b → cameTo (answered (Refused (numbered (faultOf bytes)))) tt ≡ checkImage bytes
     by-version true e =
-        ap (λ b. cameTo (answered (Refused (numbered (cond b (cond (isHeader bytes) (faultIn bytes) Header) Version)))) tt) e
-        ∙ by-header (isHeader bytes) refl (eqb-true (headerWord bytes 0) 1 e)
+        ap (λ b. cameTo (answered (Refused (numbered (cond b Version (cond (isHeader bytes) (faultIn bytes) Header))))) tt) e
+        ∙ answer Version (found-version bytes (checks .size) whole (unknown (headerWord bytes 0) e))
     by-version false e =
-        ap (λ b. cameTo (answered (Refused (numbered (cond b (cond (isHeader bytes) (faultIn bytes) Header) Version)))) tt) e
-        ∙ answer Version (found-version bytes (checks .size) whole (λ v. true≢false (sym (eq-eqb (headerWord bytes 0) 1 v) ∙ e)))
+        ap (λ b. cameTo (answered (Refused (numbered (cond b Version (cond (isHeader bytes) (faultIn bytes) Header))))) tt) e
+        ∙ by-header (isHeader bytes) refl (is-known (headerWord bytes 0) e)
 
 pub one-of-five : P.OneOfFive
 one-of-five bytes checks refused =
-    by-cases (not (eqb (headerWord bytes 0) 1)) (λ h. inl (code (given11 bytes checks 0 .1 (tt, h, refl)))) (λ a.
+    by-cases (outside 1 2 (headerWord bytes 0)) (λ h. inl (code (given11 bytes checks 0 .1 (tt, h, refl)))) (λ a.
     by-cases (not (isHeader bytes)) (λ h. inr (inl (code (given12 bytes checks 0 .1 ((a, tt), h, refl))))) (λ b.
     by-cases (not (areStrings bytes)) (λ h. inr (inr (inl (code (given13 bytes checks 1 .1 ((a, (b, tt)), h, refl)))))) (λ c.
     by-cases (ltb 0 (wrongKept bytes)) (λ h. inr (inr (inr (inl (code (given14 bytes checks (wrongKept bytes) .1 ((a, (b, (c, tt))), h, refl))))))) (λ d.

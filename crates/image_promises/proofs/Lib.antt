@@ -1,5 +1,6 @@
 pub mod Passing
 pub mod Promises
+pub mod NoMetres
 pub mod SomeTree
 pub mod Faults
 pub mod FaultyBlocks

@@ -8,9 +8,8 @@ use native.Mathlib.Omega.{arith}
 use borrow.Author.Tests.{le-ltb}
 use lib.Dec.{eqb}
 use lib.ListN.{length}
-use Rattle.meaning.specs.Trees.{Tree, nodes}
 use Rattle.meaning.specs.Blocks.{blocksIn, wrongBlock}
-use Rattle.meaning.specs.Image.{image}
+use Rattle.meaning.specs.Image.{Content, FitImage, image}
 use Rattle.meaning.specs.declared.Answer.{Answer}
 use Rattle.meaning.specs.Answers.{Row, cameTo, settle}
 use Rattle.meaning.specs.Tests.{outside, wrongSize, checkRows}
@@ -28,20 +27,20 @@ use Rattle.image_found.proofs.Finding.{comesTo, rows-checked, found-sound, held
 use Rattle.call_check_image.proofs.Calling.{image-answered}
 
 -- w, what else that is lent may have a wrong size, does not hold
-module _ (t : Tree) (h : nodes t ≤ 65535) where
-  tree-sound : Sound (layoutIn (image t)) ≡ checked (image t)
+module _ (c : Content) (h : FitImage c) where
+  tree-sound : Sound (layoutIn (image c)) ≡ checked (image c)
   tree-sound =
-      let x = image t in
-      let b = image-has-blocks t h in
-      let f = image-faultless t h in
+      let x = image c in
+      let b = image-has-blocks c h in
+      let f = image-faultless c h in
       found-sound x
-      (or-neither (not (eqb (length x % 512) 0)) (outside 5 53 (length x / 512)) (equal (length x % 512) 0 (omega (arith, b .0))) (between 5 53 (length x / 512) (b .1) (b .2)))
-      (le-ltb (wrongBlock x) (blocksIn x) (omega (arith, b .3)))
+      (or-neither (not (eqb (length x % 512) 0)) (outside 5 574 (length x / 512)) (equal (length x % 512) 0 (omega (arith, b .0))) (between 5 574 (length x / 512) (b .1) (b .2)))
+      (le-ltb (wrongBlock x) (blocksIn x) (omega (arith, b .4)))
       (f .version) (f .header) f
 
   pub tree-passed : (w : Bool) → w ≡ false → {A : Type 0} (before : A) (rest : List Row) (a : Answer) (after : A)
-      → settle before (checkRows (image t) w ++ rest) a after ≡ settle before rest a after
-  tree-passed w f before rest a after = rows-checked before rest a after (image t) w f ∙ ap (comesTo before rest a after) (sym tree-sound)
+      → settle before (checkRows (image c) w ++ rest) a after ≡ settle before rest a after
+  tree-passed w f before rest a after = rows-checked before rest a after (image c) w f ∙ ap (comesTo before rest a after) (sym tree-sound)
 
 module _ (bytes : List ℕ) (refused : checkImage bytes .answer .code ≡ 0 → ⊥) where
   pub not-passed : (w : Bool) → w ≡ false → {A : Type 0} (before : A) (rest : List Row) (a : Answer) (after : A)
@@ -56,7 +55,7 @@ module _ (bytes : List ℕ) (refused : checkImage bytes .answer .code ≡ 0 → 
 -- check holds
 pub rows-done : {A : Type 0} (before : A) (a : Answer) (after : A) (bytes : List ℕ) (w : Bool) (rest : List Row) → Others 0 rest
     → settle before (checkRows bytes w ++ rest) a after .answer .code ≡ 0
-    → (w ≡ false) × ((t : Tree) × (nodes t ≤ 65535) × (image t ≡ bytes)) × NoneHolds rest
+    → (w ≡ false) × ((c : Content) × FitImage c × (image c ≡ bytes)) × NoneHolds rest
 unfolding checkRows
 rows-done before a after bytes w rest o e =
     let h = none-held before a after 0 (checkRows bytes w ++ rest) (check-refuses bytes w rest o) e .0 in

@@ -65,9 +65,9 @@ module _ (bytes : List ℕ) (i : Layout) (found : checked bytes ≡ Sound i) whe
   tree =
       let k = sound-known bytes i found in
       let r = is-image bytes .0 (k .image) in
-      let t = r .0 in
-      let p : parentsIn bytes ≡ parents t = ap parentsIn (sym (r .2)) ∙ parents-in t (r .1) in
-      (t, r .1, p, ap stringOf p ∙ string-parents t, sym parents-count ∙ ap length p ∙ length-parents t)
+      let t = r .0 .tree in
+      let p : parentsIn bytes ≡ parents t = ap parentsIn (sym (r .2)) ∙ parents-in (r .0) (r .1) in
+      (t, r .1 .small, p, ap stringOf p ∙ string-parents t, sym parents-count ∙ ap length p ∙ length-parents t)
 
   pub onesBeforeIn-mono : (z : ℕ) → onesBeforeIn bytes z ≤ onesBeforeIn bytes (suc z)
   unfolding onesBeforeIn

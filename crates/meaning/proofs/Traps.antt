@@ -3,15 +3,16 @@
 use mathlib.Core.Path.{_≡_, refl}
 use mathlib.Core.Bool.{true, false}
 use mathlib.Core.List.{List, [], _∷_, _++_}
+use mathlib.Core.Option.{none, some}
 use Prim.Native.Nat.{ℕ, zero, suc}
-use lib.IntN.{negsuc}
+use lib.IntN.{pos, negsuc}
 use lib.ListN.{take, drop, replicate, set}
 use Rattle.meaning.specs.Strings.{O, I, stringOf}
 use Rattle.meaning.specs.Scan.{one, place}
 use Rattle.meaning.specs.Blocks.{words}
-use Rattle.meaning.specs.Image.{imageOfString, headerWord, stringIn, isImage}
+use Rattle.meaning.specs.Image.{imageOfString, headerWord, stringIn, metresIn, isImage}
 use Rattle.meaning.specs.Faults.{isHeader, areStrings, wrongKept, wrongSample}
-use Rattle.meaning.specs.Questions.{siblingAt}
+use Rattle.meaning.specs.Questions.{siblingAt, Question, questions, notAllowed}
 use Rattle.meaning.specs.Listing.{listing, deep}
 use Rattle.meaning.specs.Answers.{_at_when_, cameTo, refusedWith, counts, firstHolding, settle}
 use Rattle.meaning.specs.Tests.{wrongCount, checkRows}
@@ -21,7 +22,11 @@ abbrev T : List ℕ
 T = 0 ∷ 1 ∷ 1 ∷ 1 ∷ 2 ∷ 2 ∷ 4 ∷ []
 
 imageT : List ℕ
-imageT = imageOfString (stringOf T)
+imageT = imageOfString none (stringOf T)
+
+-- T with metres 10 20 .. 70
+measuredT : List ℕ
+measuredT = imageOfString (some (10 ∷ 20 ∷ 30 ∷ 40 ∷ 50 ∷ 60 ∷ 70 ∷ [])) (stringOf T)
 
 -- the parents of a path of n + 1 nodes: 0, 1, .., n
 path : ℕ → List ℕ
@@ -42,6 +47,20 @@ sums-of-block-1 : words (take 8 (drop 1016 imageT)) ≡ 151 ∷ 18876 ∷ []
 unfolding imageT stringOf imageOfString words
 sums-of-block-1 = refl
 
+-- and of the header and of the metres, where there are any (document 02, item 2)
+sums-of-metres : words (take 8 (drop 504 measuredT) ++ take 8 (drop 3064 measuredT)) ≡ 19 ∷ 2361 ∷ 285 ∷ 34790 ∷ []
+unfolding measuredT stringOf imageOfString words
+sums-of-metres = refl
+
+-- they are read back; without them there are none, and not zeros
+metres-back : metresIn measuredT ≡ some (10 ∷ 20 ∷ 30 ∷ 40 ∷ 50 ∷ 60 ∷ 70 ∷ [])
+unfolding measuredT stringOf imageOfString metresIn
+metres-back = refl
+
+no-metres : metresIn imageT ≡ none
+unfolding imageT stringOf imageOfString metresIn
+no-metres = refl
+
 -- T's image with another count of earlier ones, and with another sample
 other-count : isImage (set imageT 512 1) ≡ false
 unfolding imageT stringOf imageOfString isImage
@@ -54,20 +73,29 @@ other-sample = refl
 -- the block that is named: a count, a word after the samples, a sample; a wrong sample is no wrong
 -- count
 count-named : wrongKept (set imageT 512 1) ≡ 1
-unfolding imageT stringOf imageOfString headerWord stringIn wrongKept
+unfolding imageT stringOf imageOfString headerWord stringIn metresIn wrongKept
 count-named = refl
 
 unused-named : wrongKept (set imageT 1540 1) ≡ 3
-unfolding imageT stringOf imageOfString headerWord stringIn wrongKept
+unfolding imageT stringOf imageOfString headerWord stringIn metresIn wrongKept
 unused-named = refl
 
 no-count-named : wrongKept (set imageT 1536 2) ≡ 0
-unfolding imageT stringOf imageOfString headerWord stringIn wrongKept
+unfolding imageT stringOf imageOfString headerWord stringIn metresIn wrongKept
 no-count-named = refl
 
 sample-named : wrongSample (set imageT 1536 2) ≡ 3
 unfolding imageT stringOf imageOfString headerWord stringIn wrongSample
 sample-named = refl
+
+-- any metres are right, and the word behind the last of them is zero
+other-metres : wrongKept (set measuredT 2560 1) ≡ 0
+unfolding measuredT stringOf imageOfString headerWord stringIn metresIn wrongKept
+other-metres = refl
+
+behind-the-metres : wrongKept (set measuredT 2588 1) ≡ 5
+unfolding measuredT stringOf imageOfString headerWord stringIn metresIn wrongKept
+behind-the-metres = refl
 
 -- T's header with its first reserved word set, and with one run for seven nodes
 reserved-set : isHeader (set imageT 16 1) ≡ false
@@ -80,13 +108,25 @@ one-run = refl
 
 -- strings before counts: with both wrong, whatever the sums are
 strings-first : firstHolding (drop 2 (checkRows (set (set imageT 516 0) 512 1) false)) ≡ Refused (record { code = 13; place = 1 })
-unfolding imageT stringOf imageOfString headerWord isHeader areStrings wrongKept wrongSample checkRows firstHolding
+unfolding imageT stringOf imageOfString headerWord metresIn isHeader areStrings wrongKept wrongSample checkRows firstHolding
 strings-first = refl
 
 -- the sibling before node 4 of T
 one-to-the-left : siblingAt T 4 (negsuc 0) ≡ 3
 unfolding siblingAt
 one-to-the-left = refl
+
+-- the metres of node 7 of T, asked where there are none, and where there are
+metres-asked : List Question
+metres-asked = questions (pos 11 ∷ pos 7 ∷ pos 0 ∷ [])
+
+without-metres : notAllowed 7 false metres-asked 0 ≡ 1
+unfolding metres-asked notAllowed
+without-metres = refl
+
+with-metres : notAllowed 7 true metres-asked 0 ≡ 0
+unfolding metres-asked notAllowed
+with-metres = refl
 
 -- parents first, children in order
 listing-of-T : listing 65 T 1 0 ≡ 1 ∷ 0 ∷ 2 ∷ 1 ∷ 5 ∷ 2 ∷ 6 ∷ 2 ∷ 3 ∷ 1 ∷ 4 ∷ 1 ∷ 7 ∷ 2 ∷ []

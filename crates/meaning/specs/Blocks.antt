@@ -3,7 +3,7 @@ use mathlib.Core.Bool.{Bool, true, false, cond, _&&_}
 use mathlib.Core.List.{List, [], _∷_, _++_}
 use Prim.Native.Nat.{ℕ, zero, suc, _+_, _*_, _/_, _%_, _^_}
 use lib.Dec.{eqb}
-use lib.ListN.{length, take, drop, replicate}
+use lib.ListN.{length, getD, take, drop, replicate}
 
 -- ---- Words of 32 bits, little-endian.
 
@@ -21,6 +21,10 @@ words (a ∷ []) = []
 words (a ∷ b ∷ []) = []
 words (a ∷ b ∷ c ∷ []) = []
 words (a ∷ b ∷ c ∷ d ∷ rest) = (a + 256 * b + 65536 * c + 16777216 * d) ∷ words rest
+
+-- the word at byte p
+unfoldable pub wordAt : List ℕ → ℕ → ℕ
+wordAt bytes p = getD bytes p 0 + 256 * getD bytes (p + 1) 0 + 65536 * getD bytes (p + 2) 0 + 16777216 * getD bytes (p + 3) 0
 
 -- ---- The two sums: for each payload word add it to s, then add s to t, both modulo 2^32.
 

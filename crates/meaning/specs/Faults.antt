@@ -8,7 +8,7 @@ use lib.ListN.{length, take, drop}
 use Rattle.meaning.specs.Strings.{Bit, ones, R1, R0, stringOf}
 use Rattle.meaning.specs.Bytes.{value}
 use Rattle.meaning.specs.Blocks.{wordBytes, padded, same, blocksIn}
-use Rattle.meaning.specs.Image.{stringPart, samplePart, r0Block, r1Samples, blocksNeeded, headerWord, stringIn, parentsIn, isTree}
+use Rattle.meaning.specs.Image.{stringPart, samplePart, listPart, listOf, r0Block, r1Samples, blocksNeeded, headerWord, stringIn, parentsIn, metresIn, isTree}
 
 -- ---- 12: header numbers, taken together, or a reserved word that no tree of this image length
 -- has.
@@ -17,15 +17,15 @@ use Rattle.meaning.specs.Image.{stringPart, samplePart, r0Block, r1Sampl
 abbrev pub someTree : ℕ → ℕ → Bool
 someTree n m = leb 1 n && leb n 65535 && cond (eqb n 1) (eqb m 1) (leb 2 m && leb m n)
 
--- some tree has this n and m, its image has this length, and after the version come n, m, the
--- number of blocks and zeros
+-- some tree has this n and m, its image of this version has this length, and after the version come
+-- n, m, the number of blocks and zeros
 unfoldable pub isHeader : List ℕ → Bool
 unfolding headerWord padded
 isHeader bytes =
     let n = headerWord bytes 1 in
     let m = headerWord bytes 2 in
     someTree n m
-    && eqb (blocksNeeded n m) (blocksIn bytes)
+    && eqb (blocksNeeded (headerWord bytes 0) n m) (blocksIn bytes)
     && same (padded (wordBytes (headerWord bytes 0 ∷ n ∷ m ∷ blocksIn bytes ∷ []))) (take 504 bytes)
 
 -- ---- 13: strings that no tree with this n and m gives.
@@ -70,13 +70,14 @@ lowestFailing [] bytes b = 0
 lowestFailing (test ∷ tests) bytes b = cond (test (payloadAt bytes b)) (lowestFailing tests bytes (suc b)) b
 
 -- 14: a wrong count of earlier ones or unused payload not zero; of the blocks of samples only what
--- comes after the samples
+-- comes after the samples; of the metres, which are read from their blocks, nothing else can differ
 unfoldable pub wrongKept : List ℕ → ℕ
-unfolding lowestFailing
+unfolding lowestFailing metresIn
 wrongKept bytes =
     let r1 = r1In bytes in
     let r0 = r0In bytes in
-    lowestFailing (map whole (stringPart r1 ++ stringPart r0) ++ map zeroAfter (samplePart r1 ++ samplePart r0)) bytes 1
+    let metres = listPart (listOf (metresIn bytes)) in
+    lowestFailing (map whole (stringPart r1 ++ stringPart r0) ++ map zeroAfter (samplePart r1 ++ samplePart r0) ++ map whole metres) bytes 1
 
 -- 15: wrong samples
 unfoldable pub wrongSample : List ℕ → ℕ

@@ -1,7 +1,7 @@
--- Questions and their answers, from the lists of children and siblings (document 01, "Questions").
--- Number 0 is no node.
+-- Questions and their answers, from the lists of children and siblings (document 01, "Questions"),
+-- and from the metres (document 02, item 2). Number 0 is no node.
 use mathlib.Core.Bool.{Bool, true, false, cond, _&&_}
-use mathlib.Core.List.{List, [], _∷_}
+use mathlib.Core.List.{List, [], _∷_, _++_, map}
 use mathlib.Core.Option.{Option, none, some}
 use Prim.Native.Nat.{ℕ, zero, suc, _+_, _-_}
 use lib.Dec.{leb, eqb}
@@ -34,7 +34,7 @@ unfoldable pub rankOf : List ℕ → ℕ → ℕ
 unfolding childrenOf
 rankOf ps x = length (childrenOf (take x ps) (entry ps x))
 
--- ---- The ten kinds.
+-- ---- The ten kinds that ask the tree.
 
 pub data Ask : Type 0 where
   parent firstChild lastChild nextSibling previousSibling degree rank child leaf sibling : Ask
@@ -42,6 +42,11 @@ pub data Ask : Type 0 where
 -- kinds 1 to 10
 abbrev pub kinds : List Ask
 kinds = parent ∷ firstChild ∷ lastChild ∷ nextSibling ∷ previousSibling ∷ degree ∷ rank ∷ child ∷ leaf ∷ sibling ∷ []
+
+-- what is asked: something of the tree, or by kind 11 the metres
+pub data Asked : Type 0 where
+  ofTree : Ask → Asked
+  ofMetres : Asked
 
 abbrev pub isNone : ℕ → ℕ
 isNone zero = 1
@@ -86,10 +91,10 @@ questions (k ∷ []) = []
 questions (k ∷ x ∷ []) = []
 questions (k ∷ x ∷ z ∷ rest) = record { kind = k; node = x; argument = z } ∷ questions rest
 
--- what is asked, if the kind is 1 to 10
-abbrev pub kindOf : ℤ → Option Ask
+-- what is asked, if the kind is 1 to 11
+abbrev pub kindOf : ℤ → Option Asked
 kindOf (pos zero) = none
-kindOf (pos (suc k)) = getElem? kinds k
+kindOf (pos (suc k)) = getElem? (map ofTree kinds ++ ofMetres ∷ []) k
 kindOf (negsuc k) = none
 
 -- 0 where a number is negative: no node
@@ -119,24 +124,28 @@ takes leaf z = isZero z
 abbrev pub isNode : ℕ → ℕ → Bool
 isNode n x = leb 1 x && leb x n
 
-abbrev pub allowedKind : Option Ask → ℤ → Bool
-allowedKind none z = false
-allowedKind (some ask) z = takes ask z
+-- kind 11 takes argument 0, and there must be metres
+abbrev pub allowedKind : Bool → Option Asked → ℤ → Bool
+allowedKind metres none z = false
+allowedKind metres (some (ofTree ask)) z = takes ask z
+allowedKind metres (some ofMetres) z = metres && isZero z
 
--- kind, node and argument are allowed, in a tree of n nodes
-unfoldable pub allowed : ℕ → Question → Bool
-allowed n q = isNode n (numberOf (q .node)) && allowedKind (kindOf (q .kind)) (q .argument)
+-- kind, node and argument are allowed, in a tree of n nodes with metres or without
+unfoldable pub allowed : ℕ → Bool → Question → Bool
+allowed n metres q = isNode n (numberOf (q .node)) && allowedKind metres (kindOf (q .kind)) (q .argument)
 
 -- the lowest question that is not allowed, where i come before these: 0 if there is none
-unfoldable pub notAllowed : ℕ → List Question → ℕ → ℕ
+unfoldable pub notAllowed : ℕ → Bool → List Question → ℕ → ℕ
 unfolding allowed
-notAllowed n [] i = 0
-notAllowed n (q ∷ qs) i = let rest = notAllowed n qs (suc i) in cond (allowed n q) rest (suc i)
+notAllowed n metres [] i = 0
+notAllowed n metres (q ∷ qs) i = let rest = notAllowed n metres qs (suc i) in cond (allowed n metres q) rest (suc i)
 
-abbrev pub answerKind : List ℕ → Option Ask → ℕ → ℤ → ℕ
-answerKind ps none x z = 0
-answerKind ps (some ask) x z = answer ps ask x z
+-- about node x of the tree with these parents, or its metres
+abbrev pub answerKind : List ℕ → List ℕ → Option Asked → ℕ → ℤ → ℕ
+answerKind ps ms none x z = 0
+answerKind ps ms (some (ofTree ask)) x z = answer ps ask x z
+answerKind ps ms (some ofMetres) x z = entry ms x
 
-unfoldable pub answerTo : List ℕ → Question → ℕ
+unfoldable pub answerTo : List ℕ → List ℕ → Question → ℕ
 unfolding answer
-answerTo ps q = answerKind ps (kindOf (q .kind)) (numberOf (q .node)) (q .argument)
+answerTo ps ms q = answerKind ps ms (kindOf (q .kind)) (numberOf (q .node)) (q .argument)

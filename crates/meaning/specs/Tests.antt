@@ -1,5 +1,5 @@
 -- Tests that several calls make, in the order of document 01's table ("Numbers a caller gets
--- back"), with document 02's item 1 where code 7 was.
+-- back"), with document 02's item 1 where code 7 was and its item 2's sizes and versions.
 use mathlib.Core.Bool.{Bool, not, _||_}
 use mathlib.Core.List.{List, [], _∷_}
 use Prim.Native.Nat.{ℕ, _+_, _*_, _/_, _%_}
@@ -23,9 +23,9 @@ outside low high x = ltb x low || ltb high x
 abbrev pub wrongCount : List ℕ → Bool
 wrongCount ps = outside 1 65535 (length ps)
 
--- image not whole blocks or not 5 to 53 of them
+-- image not whole blocks or not 5 to 574 of them
 abbrev pub wrongSize : List ℕ → Bool
-wrongSize image = not (eqb (length image % 512) 0) || outside 5 53 (length image / 512)
+wrongSize image = not (eqb (length image % 512) 0) || outside 5 574 (length image / 512)
 
 -- splitting: L over 131,071; byte count not that of L; k over 256
 unfoldable pub wrongToSplit : ℕ → ℕ → ℕ → Bool
@@ -52,7 +52,7 @@ unfoldable pub checkRows : List ℕ → Bool → List Row
 checkRows image w =
     2 at 0 when (wrongSize image || w)
     ∷ 6 at wrongBlock image when ltb (wrongBlock image) (blocksIn image)
-    ∷ 11 at 0 when not (eqb (headerWord image 0) 1)
+    ∷ 11 at 0 when outside 1 2 (headerWord image 0)
     ∷ 12 at 0 when not (isHeader image)
     ∷ 13 at 1 when not (areStrings image)
     ∷ 14 at wrongKept image when ltb 0 (wrongKept image)

@@ -62,4 +62,9 @@ pub const MOST_QUESTIONS: usize = 256;
 
 pub const FEWEST_BLOCKS: usize = 5;
 
-pub const MOST_BLOCKS: usize = 53;
+pub const MOST_BLOCKS: usize = 574;
+
+// The versions of an image: the tree alone, or with the metres of each node.
+pub const TREE_ALONE: u32 = 1;
+
+pub const WITH_METRES: u32 = 2;

@@ -33,9 +33,9 @@ image-answers : (bytes : List ℕ) → isImage bytes ≡ true → (ask : Ask) (x
     → answer (parentsIn bytes) ask x z ≡ byStrings (readR1 bytes) (readR0 bytes) ask x z
 image-answers bytes e ask x z g h =
     let r = is-image bytes .0 e in
-    let t = r .0 in
+    let t = r .0 .tree in
     let p = parts-read bytes e in
-    let list : parentsIn bytes ≡ parents t = ap parentsIn (sym (r .2)) ∙ parents-in t (r .1) in
+    let list : parentsIn bytes ≡ parents t = ap parentsIn (sym (r .2)) ∙ parents-in (r .0) (r .1) in
     let string : stringOf (parentsIn bytes) ≡ lbs t = ap stringOf list ∙ string-parents t in
     ap (λ ps. answer ps ask x z) list
     ∙ answers-by-strings t ask x g (omega (arith, p .count, ap length list, length-parents t)) z

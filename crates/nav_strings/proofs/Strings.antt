@@ -28,7 +28,7 @@ pub record SoundString (bytes : List ℕ) (first n from m : ℕ) : Type 0 where
   pub kept : CountsAndPadding bytes first (stringIn bytes first 0 n)
   pub sampled : Sampled bytes from m (stringIn bytes first 0 n)
 
-image-length : (bytes : List ℕ) → isImage bytes ≡ true → (length bytes ≡ 512 * (length bytes / 512)) × (length bytes ≤ 512 * 53)
+image-length : (bytes : List ℕ) → isImage bytes ≡ true → (length bytes ≡ 512 * (length bytes / 512)) × (length bytes ≤ 512 * 574)
 image-length bytes e =
     let r = is-image bytes .0 e in
     let t = r .0 in

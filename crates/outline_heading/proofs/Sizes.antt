@@ -1,16 +1,19 @@
 -- The lines of an outline: the pieces that they are put together from, and how long they are.
-use mathlib.Core.Path.{_≡_, sym}
-use mathlib.Core.Bool.{Bool, true, false}
+use mathlib.Core.Path.{_≡_, refl, sym}
+use mathlib.Core.Bool.{Bool, true, false, true≢false}
 use mathlib.Core.List.{List, [], _∷_, _++_, append-assoc}
-use Prim.Native.Nat.{ℕ, suc, _+_, _*_, _≤_, _<_}
+use mathlib.Core.Option.{Option, none, some}
+use Prim.Native.Nat.{ℕ, zero, suc, _+_, _*_, _^_, _≤_, _<_}
 use native.Mathlib.Omega.{arith}
 use lib.Dec.{eqb}
 use lib.IntN.{pos}
-use lib.ListN.{length, length-append}
+use lib.ListN.{length, getD, length-append}
 use Rattle.meaning.specs.declared.Answer.{Answer}
+use Rattle.meaning.specs.Parents.{entry}
+use Rattle.meaning.specs.Image.{present, listOf}
 use Rattle.meaning.specs.Questions.{keep, numbersOf, childrenOf, answer, degree}
 use Rattle.outline_text.specs.Text.{ascii, decimal}
-use Rattle.outline_heading.specs.Lines.{heading, nodeLine, nodeLines, refusal, Pairs}
+use Rattle.outline_heading.specs.Lines.{heading, metresField, nodeLine, nodeLines, refusal, Pairs}
 use Rattle.outline_text.proofs.Putting.{decimal-length}
 
 -- ---- pieces
@@ -20,9 +23,18 @@ pub heading-pieces : (n m blocks : ℕ)
 unfolding heading
 heading-pieces n m blocks = sym (simp append-assoc)
 
-pub node-pieces : (x depth d : ℕ) → decimal x ++ ((ascii " " ++ decimal depth) ++ ((ascii " " ++ decimal d) ++ ascii "\n")) ≡ nodeLine x depth d
+pub metres-pieces : (ms : Option (List ℕ)) (x : ℕ) → present ms ≡ true → ascii " " ++ decimal (entry (listOf ms) x) ≡ metresField ms x
+metres-pieces none x e = absurd (true≢false (sym e))
+metres-pieces (some ms) x e = refl
+
+pub no-metres : (ms : Option (List ℕ)) (x : ℕ) → present ms ≡ false → [] ≡ metresField ms x
+no-metres none x e = refl
+no-metres (some ms) x e = absurd (true≢false e)
+
+pub node-pieces : (ms : Option (List ℕ)) (x depth d : ℕ)
+    → decimal x ++ ((ascii " " ++ decimal depth) ++ ((ascii " " ++ decimal d) ++ (metresField ms x ++ ascii "\n"))) ≡ nodeLine ms x depth d
 unfolding nodeLine
-node-pieces x depth d = sym (simp append-assoc)
+node-pieces ms x depth d = sym (simp append-assoc)
 
 pub refusal-pieces : (a : Answer) → (ascii "refused " ++ decimal (a .code)) ++ ((ascii " " ++ decimal (a .place)) ++ ascii "\n") ≡ refusal a
 unfolding refusal
@@ -34,9 +46,10 @@ pub heading-size : (n m blocks : ℕ) → length (heading n m blocks) ≡ 14 + l
 unfolding heading
 heading-size n m blocks = simp length-append (omega arith)
 
-pub node-size : (x depth d : ℕ) → length (nodeLine x depth d) ≡ 3 + length (decimal x) + length (decimal depth) + length (decimal d)
+pub node-size : (ms : Option (List ℕ)) (x depth d : ℕ)
+    → length (nodeLine ms x depth d) ≡ 3 + length (decimal x) + length (decimal depth) + length (decimal d) + length (metresField ms x)
 unfolding nodeLine
-node-size x depth d = simp length-append (omega arith)
+node-size ms x depth d = simp length-append (omega arith)
 
 pub refusal-size : (a : Answer) → length (refusal a) ≡ 10 + length (decimal (a .code)) + length (decimal (a .place))
 unfolding refusal
@@ -52,24 +65,38 @@ kids-most (p ∷ ps) x i = go (kids-most ps x (suc i)) (eqb p x)
     go less true = omega arith
     go less false = omega arith
 
--- a node's line has at most 4 digits, 2 and 4, two spaces and a line feed
-node-most : (ps : List ℕ) (x depth : ℕ) → length ps ≤ 4000 → x ≤ 4000 → depth < 64 → length (nodeLine x depth (answer ps degree x (pos 0))) ≤ 13
-unfolding answer childrenOf
-node-most ps x depth l g h =
-    let d = length (numbersOf ps x 1) in
-    omega (arith, node-size x depth d, decimal-length 3 x (omega arith), decimal-length 1 depth (omega arith), decimal-length 3 d (omega (arith, kids-most ps x 1)))
+-- metres, where there are any, are a space and at most 10 digits
+metres-most : (ms : Option (List ℕ)) (x : ℕ) → ((i : ℕ) → getD (listOf ms) i 0 < 2 ^ 32) → length (metresField ms x) ≤ 11
+metres-most none x h = omega arith
+metres-most (some ms) zero h = omega (arith, decimal-length 9 0 (omega arith))
+metres-most (some ms) (suc i) h = omega (arith, decimal-length 9 (getD ms i 0) (omega (arith, h i)))
 
-pub lines-most : (n : ℕ) (ps pairs : List ℕ) → n ≤ 4000 → length ps ≡ n → Pairs n pairs → 2 * length (nodeLines ps pairs) ≤ 13 * length pairs
-unfolding nodeLines
-lines-most n ps [] h l p = omega arith
-lines-most n ps (x ∷ []) h l p = absurd p
-lines-most n ps (x ∷ depth ∷ rest) h l p =
-    omega (
-      arith,
-      length-append (nodeLine x depth (answer ps degree x (pos 0))) (nodeLines ps rest),
-      node-most ps x depth (omega arith) (omega arith) (p .2),
-      lines-most n ps rest h l (p .3),
-    )
+module _ (n : ℕ) (ps : List ℕ) (ms : Option (List ℕ)) (few : n ≤ 4000) (size : length ps ≡ n) (small : (i : ℕ) → getD (listOf ms) i 0 < 2 ^ 32) where
+  -- a node's line has at most 4 digits, 2 and 4, two spaces, its metres and a line feed
+  node-most : (x depth : ℕ) → x ≤ n → depth < 64 → length (nodeLine ms x depth (answer ps degree x (pos 0))) ≤ 24
+  unfolding answer childrenOf
+  node-most x depth g h =
+      let d = length (numbersOf ps x 1) in
+      omega (
+        arith,
+        node-size ms x depth d,
+        decimal-length 3 x (omega arith),
+        decimal-length 1 depth (omega arith),
+        decimal-length 3 d (omega (arith, kids-most ps x 1)),
+        metres-most ms x small,
+      )
+
+  pub lines-most : (pairs : List ℕ) → Pairs n pairs → length (nodeLines ps ms pairs) ≤ 12 * length pairs
+  unfolding nodeLines
+  lines-most [] p = omega arith
+  lines-most (x ∷ []) p = absurd p
+  lines-most (x ∷ depth ∷ rest) p =
+      omega (
+        arith,
+        length-append (nodeLine ms x depth (answer ps degree x (pos 0))) (nodeLines ps ms rest),
+        node-most x depth (p .1) (p .2),
+        lines-most rest (p .3),
+      )
 
 -- of numbers of 32 bits
 pub heading-most : (n m blocks : ℕ) → n < 4294967296 → m < 4294967296 → blocks < 4294967296 → length (heading n m blocks) ≤ 44

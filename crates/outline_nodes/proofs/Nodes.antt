@@ -2,6 +2,7 @@
 -- to come.
 use mathlib.Core.Path.{_≡_, refl, sym, ap, _∙_, subst}
 use mathlib.Core.List.{List, [], _∷_, _++_, append-assoc, append-nil}
+use mathlib.Core.Option.{Option}
 use Prim.Native.Nat.{ℕ, suc, _+_, _≤_, _<_}
 use native.Mathlib.Numerals.{add-one}
 use native.Mathlib.Omega.{arith}
@@ -39,39 +40,35 @@ pair-at n pairs i h l =
 -- ---- lines
 
 -- of the lines of all pairs, those before pair i are put from `from` on, up to `at`
-pub record Half (ps pairs : List ℕ) (n from : ℕ) (t : List ℕ) (at i : ℕ) (u : List ℕ) : Type 0 where
+pub record Half (ps : List ℕ) (ms : Option (List ℕ)) (pairs : List ℕ) (n from : ℕ) (t : List ℕ) (at i : ℕ) (u : List ℕ) : Type 0 where
   pub lines : List ℕ
   pub put : Puts lines from at t u
-  pub whole : lines ++ nodeLines ps (drop i pairs) ≡ nodeLines ps pairs
+  pub whole : lines ++ nodeLines ps ms (drop i pairs) ≡ nodeLines ps ms pairs
   pub rest : Pairs n (drop i pairs)
 
-module _ (ps pairs : List ℕ) (n from : ℕ) (t : List ℕ) where
-  pub none-put : Pairs n pairs → Half ps pairs n from t from 0 t
+module _ (ps : List ℕ) (ms : Option (List ℕ)) (pairs : List ℕ) (n from : ℕ) (t : List ℕ) where
+  pub none-put : Pairs n pairs → Half ps ms pairs n from t from 0 t
   none-put h = record { lines = []; put = record { text = refl; place = omega arith }; whole = refl; rest = h }
 
-  module _ (at i : ℕ) (u : List ℕ) (half : Half ps pairs n from t at i u) where
-    pub all-put : length pairs ≤ i → Puts (nodeLines ps pairs) from at t u
+  module _ (at i : ℕ) (u : List ℕ) (half : Half ps ms pairs n from t at i u) where
+    pub all-put : length pairs ≤ i → Puts (nodeLines ps ms pairs) from at t u
     unfolding nodeLines
     all-put h =
-        put-as (sym (append-nil (half .lines)) ∙ ap (λ l. half .lines ++ nodeLines ps l) (sym (drop-of-length-le pairs {i = i} h)) ∙ half .whole) (half .put)
+        put-as (sym (append-nil (half .lines)) ∙ ap (λ l. half .lines ++ nodeLines ps ms l) (sym (drop-of-length-le pairs {i = i} h)) ∙ half .whole) (half .put)
 
     module _ (l : i < length pairs) where
       pub here : PairAt n pairs i
       here = pair-at n pairs i (half .rest) l
 
-      abbrev line : ℕ → List ℕ
-      line d = nodeLine (getD pairs i 0) (getD pairs (i + 1) 0) d
+      abbrev line : List ℕ
+      line = nodeLine ms (getD pairs i 0) (getD pairs (i + 1) 0) (answer ps degree (getD pairs i 0) (pos 0))
 
-      module _ (d : ℕ) (e : d ≡ answer ps degree (getD pairs i 0) (pos 0)) where
-        next : nodeLines ps (drop i pairs) ≡ line d ++ nodeLines ps (drop (i + 2) pairs)
-        unfolding nodeLines
-        next = ap (nodeLines ps) (here .here) ∙ ap (λ g. line g ++ nodeLines ps (drop (i + 2) pairs)) (sym e)
+      grown : (half .lines ++ line) ++ nodeLines ps ms (drop (i + 2) pairs) ≡ nodeLines ps ms pairs
+      unfolding nodeLines
+      grown = append-assoc (half .lines) line _ ∙ ap (λ r. half .lines ++ nodeLines ps ms r) (sym (here .here)) ∙ half .whole
 
-        grown : (half .lines ++ line d) ++ nodeLines ps (drop (i + 2) pairs) ≡ nodeLines ps pairs
-        grown = append-assoc (half .lines) (line d) _ ∙ ap (λ r. half .lines ++ r) (sym next) ∙ half .whole
+      pub line-room : from + length (nodeLines ps ms pairs) ≤ length t → at + length line ≤ length u
+      line-room h = omega (arith, put-length (half .put), half .put .place, simp length-append at (ap length grown))
 
-        pub line-room : from + length (nodeLines ps pairs) ≤ length t → at + length (line d) ≤ length u
-        line-room h = omega (arith, put-length (half .put), half .put .place, simp length-append at (ap length grown))
-
-        pub line-put : (after : ℕ) (v : List ℕ) → Puts (line d) at after u v → Half ps pairs n from t after (i + 2) v
-        line-put after v p = record { lines = half .lines ++ line d; put = both-put (half .put) p; whole = grown; rest = here .after }
+      pub line-put : (after : ℕ) (v : List ℕ) → Puts line at after u v → Half ps ms pairs n from t after (i + 2) v
+      line-put after v p = record { lines = half .lines ++ line; put = both-put (half .put) p; whole = grown; rest = here .after }

@@ -1,22 +1,25 @@
 -- What is printed for an image, from what the check found and what the listing of the root gave.
 use mathlib.Core.Path.{_≡_, refl, sym, ap, ap₂, _∙_, subst}
-use mathlib.Core.Bool.{false}
+use mathlib.Core.Bool.{false, cond}
 use mathlib.Core.List.{List, [], _++_}
-use Prim.Native.Nat.{ℕ, zero, suc, _*_, _/_, _≤_, _<_}
+use Prim.Native.Nat.{ℕ, zero, suc, _*_, _/_, _^_, _≤_, _<_}
 use native.Mathlib.Omega.{arith}
 use borrow.Author.Tests.{lt-ltb, le-ltb, eq-eqb, ne-eqb}
-use lib.ListN.{length, take, drop, replicate, length-replicate}
+use lib.ListN.{length, getD, take, drop, replicate, length-replicate}
 use lib.Seq.{take-at}
 use Rattle.meaning.specs.declared.Answer.{Answer}
 use Rattle.meaning.specs.Answers.{refusedWith, counts, cameTo, firstHolding, written}
 use Rattle.meaning.specs.Blocks.{blocksIn}
-use Rattle.meaning.specs.Image.{parentsIn}
+use Rattle.meaning.specs.Trees.{nodes}
+use Rattle.meaning.specs.Image.{listOf, parentsIn, metresIn}
 use Rattle.meaning.specs.Listing.{listing, deep}
 use Rattle.meaning.specs.declared.Refusal.{Refusal}
 use Rattle.meaning.specs.declared.Verdict.{Verdict}
 use Rattle.meaning.specs.declared.Verdict.the-variants as Verdict
 use Rattle.meaning.specs.Tests.{checkRows}
 use Rattle.calls.specs.Calls.{checkImage, listImage}
+use Rattle.theory.proofs.Images.{measured-word}
+use Rattle.theory.proofs.TreeImages.{metres-in, is-image}
 use Rattle.theory.proofs.Stages.{image-stages}
 use Rattle.image_layout.specs.declared.Layout.{Layout}
 use Rattle.theory.proofs.Codes.{check-refuses, first-other}
@@ -69,17 +72,23 @@ module _ (bytes : List ℕ) (found listed : Answer) (pairs : List ℕ) where
     unfolding printed
     not-listed h = simp (eq-eqb (found .code) 0 e, le-ltb 4000 (found .first) few, ne-eqb (listed .code) 0 h)
 
-    pub all-listed : listed .code ≡ 0 → printed bytes found listed pairs ≡ top ++ nodeLines (parentsIn bytes) pairs
+    pub all-listed : listed .code ≡ 0 → printed bytes found listed pairs ≡ top ++ nodeLines (parentsIn bytes) (metresIn bytes) pairs
     unfolding printed
     all-listed h = simp (eq-eqb (found .code) 0 e, le-ltb 4000 (found .first) few, eq-eqb (listed .code) 0 h)
 
--- ---- by what the check found
+-- ---- by the number of bytes, and by what the check found
 
-module _ (bytes : List ℕ) where
-  pub by-answer : (found : Answer) → checkImage bytes .answer ≡ found
-      → let listed = listImage bytes 1 (replicate (2 * found .first) 0) in outlineOf bytes ≡ printed bytes found (listed .answer) (listed .lent)
+pub too-long : (bytes : List ℕ) → 49152 < length bytes → outlineOf bytes ≡ refusal (refusedWith 2 0)
+unfolding outlineOf
+too-long bytes h = simp (lt-ltb 49152 (length bytes) h)
+
+module _ (bytes : List ℕ) (fits : length bytes ≤ 49152) where
+  abbrev printedBy : Answer → List ℕ
+  printedBy found = let listed = listImage bytes 1 (replicate (2 * found .first) 0) in printed bytes found (listed .answer) (listed .lent)
+
+  pub by-answer : (found : Answer) → checkImage bytes .answer ≡ found → outlineOf bytes ≡ printedBy found
   unfolding outlineOf
-  by-answer found e = ap (λ a. let listed = listImage bytes 1 (replicate (2 * a .first) 0) in printed bytes a (listed .answer) (listed .lent)) e
+  by-answer found e = ap (λ b. cond b (refusal (refusedWith 2 0)) (printedBy (checkImage bytes .answer))) (le-ltb 49152 (length bytes) fits) ∙ ap printedBy e
 
   by-check : (c : Checked) → checked bytes ≡ c → checkImage bytes .answer ≡ answered c
   by-check c e = sym (ap (λ o. o .answer) (image-answered bytes)) ∙ ap answered e
@@ -130,7 +139,7 @@ module _ (bytes : List ℕ) where
     -- the listing, in a list that has room: refused, or the lines of the nodes
     pub record Listed (a : Answer) (o : List ℕ) : Type 0 where
       pub refused : (a .code ≡ 0 → ⊥) → outlineOf bytes ≡ refusal a
-      pub lines : a .code ≡ 0 → outlineOf bytes ≡ first ++ nodeLines (parentsIn bytes) (take (2 * i .nodes) o)
+      pub lines : a .code ≡ 0 → outlineOf bytes ≡ first ++ nodeLines (parentsIn bytes) (metresIn bytes) (take (2 * i .nodes) o)
       pub whole : a .code ≡ 0 → Whole (i .nodes) (take (2 * i .nodes) o)
 
     module _ (few : i .nodes ≤ 4000) (out : List ℕ) (room : 2 * i .nodes ≤ length out) where
@@ -160,12 +169,21 @@ module _ (bytes : List ℕ) where
             lines = λ z. outlined
                 ∙ ap (λ r. printed bytes counted (r .answer) (r .lent)) (given d zeros (omega (arith, zeros-size)))
                 ∙ all-listed bytes counted (counts (i .nodes) 0) (written pairs zeros) refl few refl
-                ∙ ap₂ (λ t l. t ++ nodeLines (parentsIn bytes) l) top-is (alone ∙ sym front);
+                ∙ ap₂ (λ t l. t ++ nodeLines (parentsIn bytes) (metresIn bytes) l) top-is (alone ∙ sym front);
             whole = λ z. subst (Whole (i .nodes)) (sym front) (whole d);
           })
 
       pub outline-listed : (a : Answer) (o : List ℕ) → cameTo a o ≡ listImage bytes 1 out → Listed a o
       outline-listed a o q = subst (λ r. Listed (r .answer) (r .lent)) (sym q) (by-depth (deep pairs) refl)
+
+-- ---- the metres of an image, where it has any, are words
+
+pub metres-words : (bytes : List ℕ) (i : Layout) → checked bytes ≡ Sound i → (k : ℕ) → getD (listOf (metresIn bytes)) k 0 < 2 ^ 32
+metres-words bytes i e k =
+    let r = is-image bytes .0 (sound-known bytes i e .image) in
+    let c = r .0 in
+    let ms : metresIn bytes ≡ c .metres = ap metresIn (sym (r .2)) ∙ metres-in c (r .1) in
+    subst (λ m. getD (listOf m) k 0 < 2 ^ 32) (sym ms) (measured-word (nodes (c .tree)) (c .metres) (r .1 .measured) k)
 
 -- ---- what was put is the outline
 

@@ -7,7 +7,7 @@ use native.Mathlib.Omega.{arith}
 use lib.ListN.{length, length-append}
 use Rattle.meaning.specs.Trees.{Tree, Trees, node, none, _then_, Node, depth, beside, levels, levelsBelow, endToEnd, levelOrder, nodes}
 use Rattle.meaning.specs.Parents.{parents}
-use Rattle.meaning.specs.Image.{image, parentsIn}
+use Rattle.meaning.specs.Image.{parentsIn}
 use Rattle.meaning.specs.Listing.{listing, deep}
 use Rattle.theory.specs.Walks.{nodeAt, depthFirst, depthFirstOf, everything, Lists, AllBelow}
 use Rattle.theory.proofs.Forms.{length-parents}
@@ -73,8 +73,8 @@ pub root-whole : (bytes : List ℕ) (i : Layout) → checked bytes ≡ Sound i �
     → deep (listing 65 (parentsIn bytes) 1 0) ≡ 0 → Whole (i .nodes) (listing 65 (parentsIn bytes) 1 0)
 root-whole bytes i found some e =
     let r = is-image bytes .0 (sound-known bytes i found .image) in
-    let t = r .0 in
-    let p : parentsIn bytes ≡ parents t = ap parentsIn (sym (r .2)) ∙ parents-in t (r .1) in
+    let t = r .0 .tree in
+    let p : parentsIn bytes ≡ parents t = ap parentsIn (sym (r .2)) ∙ parents-in (r .0) (r .1) in
     let n : nodes t ≡ i .nodes = sym (length-parents t) ∙ ap length (sym p) ∙ parents-count bytes i found in
     subst (λ ps. Whole (i .nodes) (listing 65 ps 1 0)) (sym p)
     (subst (λ k. Whole k (listing 65 (parents t) 1 0)) n (tree-whole t (omega arith) (ap (λ ps. deep (listing 65 ps 1 0)) (sym p) ∙ e)))

@@ -8,9 +8,14 @@ use call_list::list;
 use check_image::check;
 use image_found::Checked;
 use image_found::answer_of;
+use meaning::WRONG_SIZE;
 use outline_heading::put_heading;
 use outline_heading::put_refusal;
 use outline_nodes::put_nodes;
+use table_answers::refuse;
+
+// The most bytes that an outline is made of: 96 blocks.
+const MOST_BYTES: usize = 49152;
 
 // The most nodes of which each has its line.
 const MOST_LISTED: u32 = 4000;
@@ -19,10 +24,13 @@ const MOST_LISTED: u32 = 4000;
 // `pairs` on the way. Answers how many bytes that is.
 pub fn outline(b: &[u8], pairs: &mut [u32], text: &mut [u8]) -> usize
     requires { ⌜ 8000 ≤ length (now pairs) ⌝ }
-    requires { ⌜ 65536 ≤ length (now text) ⌝ }
+    requires { ⌜ 98304 ≤ length (now text) ⌝ }
     ensures { λ r. ⌜ now (text .exit) ≡ written (outlineOf (now (b .entry))) (now (text .entry)) ⌝ }
     ensures { λ r. ⌜ r ≡ length (outlineOf (now (b .entry))) ⌝ }
 {
+    if MOST_BYTES < b.len() {
+        return put_refusal(text, refuse(WRONG_SIZE, 0));
+    }
     let found = check(b);
     let Checked::Sound(image) = found else {
         return put_refusal(text, answer_of(found));

@@ -2,18 +2,21 @@
 use mathlib.Core.Path.{_≡_, refl, sym, ap, _∙_, subst}
 use mathlib.Core.Bool.{Bool, true, false, cond}
 use mathlib.Core.List.{List, [], _∷_}
+use mathlib.Core.Option.{Option, none, some}
 use mathlib.Core.Logic.{_⊎_, inl, inr}
 use Prim.Native.Nat.{ℕ}
 use Rattle.meaning.specs.declared.Answer.{Answer}
+use Rattle.meaning.specs.Parents.{badEntry}
 use Rattle.meaning.specs.Answers.{Row, Outcome, counts, refusedWith, cameTo, settle}
-use Rattle.calls.specs.Calls.{string-of-parents, parents-of-string, image-of-parents, parents-of-image, check-image, ask, list, split, join, does}
+use Rattle.calls.specs.Calls.{string-of-parents, parents-of-string, image-of-parents, image-with-metres, parents-of-image, metres-of-image, check-image, ask, list, split, join, does}
 use Rattle.meaning.specs.Tests.{parentRows, checkRows, packRows}
-use Rattle.calls.specs.Calls.{stringOfParents, parentsOfString, imageOfParents, checkImage, parentsOfImage, askImage, listImage, splitPack, joinPack}
+use Rattle.calls.specs.Calls.{stringOfParents, parentsOfString, sealParents, imageOfParents, imageWithMetres, checkImage, parentsOfImage, metresOfImage, askImage, listImage, splitPack, joinPack}
 use Rattle.theory.proofs.Settled.{settle-here, settle-on, settle-none}
 use Rattle.theorems.proofs.Promises as Theory
 use Rattle.string_promises.proofs.Promises as Strings
 use Rattle.pack_promises.proofs.Promises as Packs
 use Rattle.image_promises.proofs.Promises as Images
+use Rattle.image_promises.proofs.NoMetres as NoMetres
 use Rattle.image_promises.proofs.Faults as Faults
 use Rattle.image_promises.proofs.FaultyBlocks as Blocks
 use Rattle.outline_page.proofs.Promises as Outline
@@ -66,12 +69,31 @@ settled before lists es o w = go (w .is)
     go (inl d) = inl d
     go (inr r) = inr (r .0, r .1, r .2, ap lists (r .3))
 
+-- sealing has two rows of code 2, for its two lists
+once : {A : Type 0} (before : A) (e : ℕ × ℕ) (es : List (ℕ × ℕ)) (a : Answer) (after : A) → Either before (e ∷ e ∷ es) a after → Either before (e ∷ es) a after
+once before e es a after (inl d) = inl d
+once before e es a after (inr r) = inr (merged (r .0), r .1, r .2, r .3)
+  where
+    merged : OneOf (a .code) (a .place) (e ∷ e ∷ es) → OneOf (a .code) (a .place) (e ∷ es)
+    merged (inl here) = inl here
+    merged (inr rest) = rest
+
+sealed : (ms : Option (List ℕ)) (ps out : List ℕ)
+    → let o = sealParents ms ps out in
+    Either (out ∷ []) ((2, 0) ∷ (3, badEntry ps) ∷ (1, 0) ∷ []) (o .answer) (o .lent ∷ [])
+unfolding sealParents parentRows
+sealed ms ps out =
+    let o = sealParents ms ps out in
+    once (out ∷ []) (2, 0) ((3, badEntry ps) ∷ (1, 0) ∷ []) (o .answer) (o .lent ∷ []) (settled out (λ x. x ∷ []) _ o (settle-placed _ _ _ _ _))
+
 done-or-refused : P.DoneOrRefused
-unfolding does stringOfParents parentsOfString imageOfParents parentRows checkRows packRows checkImage parentsOfImage askImage listImage splitPack joinPack
+unfolding does stringOfParents parentsOfString sealParents imageOfParents imageWithMetres parentRows checkRows packRows checkImage parentsOfImage metresOfImage askImage listImage splitPack joinPack
 done-or-refused (string-of-parents ps out) = settled out (λ x. x ∷ []) _ (stringOfParents ps out) (settle-placed _ _ _ _ _)
 done-or-refused (parents-of-string bytes L out) = settled out (λ x. x ∷ []) _ (parentsOfString bytes L out) (settle-placed _ _ _ _ _)
-done-or-refused (image-of-parents ps out) = settled out (λ x. x ∷ []) _ (imageOfParents ps out) (settle-placed _ _ _ _ _)
+done-or-refused (image-of-parents ps out) = sealed none ps out
+done-or-refused (image-with-metres ps ms out) = sealed (some ms) ps out
 done-or-refused (parents-of-image image out) = settled out (λ x. x ∷ []) _ (parentsOfImage image out) (settle-placed _ _ _ _ _)
+done-or-refused (metres-of-image image out) = settled out (λ x. x ∷ []) _ (metresOfImage image out) (settle-placed _ _ _ _ _)
 done-or-refused (check-image image) = settled tt (λ x. []) _ (checkImage image) (settle-placed _ _ _ _ _)
 done-or-refused (ask image qs out) = settled out (λ x. x ∷ []) _ (askImage image qs out) (settle-placed _ _ _ _ _)
 done-or-refused (list image x out) = settled out (λ x. x ∷ []) _ (listImage image x out) (settle-placed _ _ _ _ _)
@@ -127,18 +149,23 @@ kept = record {
   image-read = Images.image-read-exactly;
   checked-of-tree = Images.checked-of-tree;
   accepted-is-sealed = Images.accepted-is-sealed;
-  one-image-per-tree = Images.one-image-per-tree;
+  one-image-per-content = Images.one-image-per-content;
+  metres-read = Images.metres-read-exactly;
+  other-length = Images.other-length;
+  no-metres-is-not-zero = NoMetres.no-metres-is-not-zero;
+  version-one-stays = NoMetres.version-one-stays;
   checked-first = Images.checked-first;
   version-named = Faults.version-named;
   header-named = Faults.header-named;
   strings-named = Faults.strings-named;
+  metres-never-wrong = Faults.metres-never-wrong;
   counts-named = Blocks.counts-named;
   samples-named = Blocks.samples-named;
   one-of-five = Faults.one-of-five;
   own-children = Theory.own-children;
   own-parent = Theory.own-parent;
   own-answer = Theory.own-answers;
-  asked-of-tree = Images.asked-of-tree;
+  asked-of-content = Images.asked-of-content;
   asked-exactly = Images.asked-exactly;
   allowed-exactly = Images.allowed-exactly;
   own-listing = Theory.own-listing;
@@ -172,9 +199,11 @@ kept = record {
   listed-by-measure = Images.listed-by-measure;
   each-node-has-its-line = Outline.each-node-has-its-line;
   only-the-heading = Outline.only-the-heading;
+  short-without-metres = Outline.short-without-metres;
   only-the-refusal = Outline.only-the-refusal;
   only-the-first-too-deep = Outline.only-the-first-too-deep;
   too-many-bytes = Outline.too-many-bytes;
   no-more-is-read = Outline.no-more-is-read;
   tree-t = Outline.tree-t;
+  tree-t-with-metres = Outline.tree-t-with-metres;
 }

@@ -1,5 +1,5 @@
 -- What the store promises, in the order of the customer's demands. Each name is a statement about
--- the nine calls as functions of what is lent (calls/specs/Calls.antt); the contract of each
+-- the eleven calls as functions of what is lent (calls/specs/Calls.antt); the contract of each
 -- exported call is an equation with its function, so what is said here is said of the code.
 -- `Promises`, at the end, is all of them, with those of the theory, of strings, packs and images,
 -- and of the outline; proofs/Promises.antt keeps it.
@@ -14,12 +14,12 @@ use Rattle.meaning.specs.Bytes.{bitsFrom}
 use Rattle.meaning.specs.Scan.{one, many, place}
 use Rattle.meaning.specs.Packs.{sizes}
 use Rattle.meaning.specs.Blocks.{wrongBlock}
-use Rattle.meaning.specs.Image.{parentsIn}
+use Rattle.meaning.specs.Image.{present, parentsIn, metresIn}
 use Rattle.meaning.specs.Faults.{wrongKept, wrongSample}
 use Rattle.meaning.specs.Questions.{questions, notAllowed}
 use Rattle.meaning.specs.Listing.{listing, deep}
 use Rattle.meaning.specs.Answers.{Outcome, cameTo}
-use Rattle.calls.specs.Calls.{Call, string-of-parents, parents-of-string, image-of-parents, parents-of-image, check-image, ask, list, split, join, does}
+use Rattle.calls.specs.Calls.{Call, string-of-parents, parents-of-string, image-of-parents, image-with-metres, parents-of-image, metres-of-image, check-image, ask, list, split, join, does}
 use Rattle.theorems.specs.Promises as Theory
 use Rattle.string_promises.specs.Promises as Strings
 use Rattle.pack_promises.specs.Promises as Packs
@@ -27,19 +27,23 @@ use Rattle.image_promises.specs.Promises as Images
 use Rattle.image_promises.specs.Faults as Faults
 use Rattle.outline_page.specs.Promises as Outline
 
--- ---- Demand 1. A `Call` is one of the nine with its inputs, whatever they are; `does` is what it
--- comes to.
+-- ---- Demand 1. A `Call` is one of the eleven with its inputs, whatever they are; `does` is what
+-- it comes to.
 
 -- the refusals that the documents' table has for a call: each code with its place
 abbrev pub listed : Call → List (ℕ × ℕ)
 listed (string-of-parents ps out) = (2, 0) ∷ (3, badEntry ps) ∷ (1, 0) ∷ []
 listed (parents-of-string bytes L out) = (2, 0) ∷ (5, 0) ∷ (4, place one (bitsFrom bytes 0 L)) ∷ (1, 0) ∷ []
 listed (image-of-parents ps out) = (2, 0) ∷ (3, badEntry ps) ∷ (1, 0) ∷ []
+listed (image-with-metres ps ms out) = (2, 0) ∷ (3, badEntry ps) ∷ (1, 0) ∷ []
 listed (parents-of-image image out) = (2, 0) ∷ (6, wrongBlock image) ∷ (11, 0) ∷ (12, 0) ∷ (13, 1) ∷ (14, wrongKept image) ∷ (15, wrongSample image) ∷ (1, 0) ∷ []
+listed (metres-of-image image out) =
+    (2, 0) ∷ (6, wrongBlock image) ∷ (11, 0) ∷ (12, 0) ∷ (13, 1) ∷ (14, wrongKept image) ∷ (15, wrongSample image)
+    ∷ (8, 1) ∷ (1, 0) ∷ []
 listed (check-image image) = (2, 0) ∷ (6, wrongBlock image) ∷ (11, 0) ∷ (12, 0) ∷ (13, 1) ∷ (14, wrongKept image) ∷ (15, wrongSample image) ∷ []
 listed (ask image qs out) =
     (2, 0) ∷ (6, wrongBlock image) ∷ (11, 0) ∷ (12, 0) ∷ (13, 1) ∷ (14, wrongKept image) ∷ (15, wrongSample image)
-    ∷ (8, notAllowed (length (parentsIn image)) (questions qs) 0) ∷ (1, 0) ∷ []
+    ∷ (8, notAllowed (length (parentsIn image)) (present (metresIn image)) (questions qs) 0) ∷ (1, 0) ∷ []
 listed (list image x out) =
     (2, 0) ∷ (6, wrongBlock image) ∷ (11, 0) ∷ (12, 0) ∷ (13, 1) ∷ (14, wrongKept image) ∷ (15, wrongSample image)
     ∷ (8, 1) ∷ (9, deep (listing 65 (parentsIn image) x 0)) ∷ (1, 0) ∷ []
@@ -51,7 +55,9 @@ abbrev pub lentTo : Call → List (List ℕ)
 lentTo (string-of-parents ps out) = out ∷ []
 lentTo (parents-of-string bytes L out) = out ∷ []
 lentTo (image-of-parents ps out) = out ∷ []
+lentTo (image-with-metres ps ms out) = out ∷ []
 lentTo (parents-of-image image out) = out ∷ []
+lentTo (metres-of-image image out) = out ∷ []
 lentTo (check-image image) = []
 lentTo (ask image qs out) = out ∷ []
 lentTo (list image x out) = out ∷ []
@@ -122,45 +128,57 @@ pub record Promises : Type 1 where
   pub leaf-by-strings : Theory.LeafByStrings
   pub next-by-strings : Theory.NextByStrings
   pub answers-by-strings : Theory.AnswersByStrings
-  -- an image is 5 to 53 whole blocks that all check, laid out as document 01 has it; sample j is
-  -- the position of one number 64 j + 1
+  -- an image is 5 to 574 whole blocks that all check, laid out as the documents have it; sample j
+  -- is the position of one number 64 j + 1
   pub image-blocks : Theory.ImageBlocks
   pub image-laid : Theory.ImageLaid
   pub samples-are : Theory.SamplesAre
   -- the counts of an image made are n and m
   pub sealed-of-tree : Images.SealedOfTree
-  -- any tree comes back the same from its image
+  -- any tree comes back the same from its image, and its metres, if it has any
   pub image-back : Theory.ImageBack
   pub sealed-then-read : Images.SealedThenRead
-  -- an image is accepted exactly if some tree gives it
+  -- an image is accepted exactly if some tree gives it, with metres or without
   pub bytes-accepted : Theory.ImageAccepted
   pub image-accepted : Images.ImageAcceptedExactly
   pub image-read : Images.ImageReadExactly
   -- the counts of an image checked are n and m
   pub checked-of-tree : Images.CheckedOfTree
-  -- two trees never give one image
+  -- two trees never give one image, nor a tree with other metres or without
   pub accepted-is-sealed : Images.AcceptedIsSealed
-  pub one-image-per-tree : Images.OneImagePerTree
+  pub one-image-per-content : Images.OneImagePerContent
+  -- document 02, item 2: metres are read back exactly from a tree's image with metres, n and 0 as
+  -- counts
+  pub metres-read : Images.MetresReadExactly
+  -- code 2 for a list of metres whose length is not n
+  pub other-length : Images.OtherLength
+  -- an image of version 1 shows no metres, which is not 0 metres: reading them back, and question
+  -- 11, are code 8
+  pub no-metres-is-not-zero : Images.NoMetresIsNotZero
+  -- and it stays what it was, byte for byte
+  pub version-one-stays : Images.VersionOneStays
   -- every public reading of an image makes the whole check first
   pub checked-first : Images.CheckedFirst
   -- document 02, item 1: what the refusal of an image names whose size and sums are right. 11: a
-  -- version other than 1
+  -- version other than 1 and 2
   pub version-named : Faults.VersionNamed
   -- 12: header numbers, taken together, or a reserved word that no tree of this image length has
   pub header-named : Faults.HeaderNamed
   -- 13: strings that no tree with this n and m gives; the place is the first R1 block
   pub strings-named : Faults.StringsNamed
+  -- metres are never wrong
+  pub metres-never-wrong : Faults.MetresNeverWrong
   -- 14: a wrong count of earlier ones or unused payload not zero, with the lowest such block
   pub counts-named : Faults.CountsNamed
   -- 15: wrong samples, with the lowest such block
   pub samples-named : Faults.SamplesNamed
   -- one of the five, all where 7 was
   pub one-of-five : Faults.OneOfFive
-  -- each navigation answer is the one the tree itself gives
+  -- each navigation answer is the one the tree itself gives, and question 11 gives a node's metres
   pub own-children : Theory.OwnChildren
   pub own-parent : Theory.OwnParent
   pub own-answer : Theory.OwnAnswer
-  pub asked-of-tree : Images.AskedOfTree
+  pub asked-of-content : Images.AskedOfContent
   -- questions are answered exactly if a tree's image is asked, in threes, 256 at most, and kind,
   -- node and argument of each are allowed
   pub asked-exactly : Images.AskedExactly
@@ -212,14 +230,16 @@ pub record Promises : Type 1 where
   pub held-by-scan : Packs.HeldByScan
   pub listed-by-measure : Images.ListedByMeasure
   -- The outline prints n, m and blocks, then, if n is at most 4,000, a line for each node in
-  -- listing order: number, depth, degree
+  -- listing order: number, depth, degree, and its metres where there are any
   pub each-node-has-its-line : Outline.EachNodeHasItsLine
   pub only-the-heading : Outline.OnlyTheHeading
+  pub short-without-metres : Outline.ShortWithoutMetres
   -- after a refusal, listing included, only that
   pub only-the-refusal : Outline.OnlyTheRefusal
   pub only-the-first-too-deep : Outline.OnlyTheFirstTooDeep
-  -- more than 27,136 bytes is code 2, place 0
+  -- more than 49,152 bytes is code 2, place 0
   pub too-many-bytes : Outline.TooManyBytes
   pub no-more-is-read : Outline.NoMoreIsRead
-  -- the example, tree T
+  -- the example, tree T, and with metres
   pub tree-t : Outline.TreeT
+  pub tree-t-with-metres : Outline.TreeTWithMetres

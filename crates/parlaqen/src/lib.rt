@@ -1,8 +1,8 @@
-// The nine public calls, for C and Rust: include/parlaqen.h declares them. Each is one call of its
-// layer, with the same contract.
+// The eleven public calls, for C and Rust: include/parlaqen.h declares them. Each is one call of
+// its layer, with the same contract.
 ghost use mathlib.Core.Path.{_≡_};
 ghost use Rattle.meaning.specs.Answers.{cameTo};
-ghost use Rattle.calls.specs.Calls.{stringOfParents, parentsOfString, imageOfParents, parentsOfImage, checkImage, askImage, listImage, splitPack, joinPack};
+ghost use Rattle.calls.specs.Calls.{stringOfParents, parentsOfString, imageOfParents, imageWithMetres, parentsOfImage, metresOfImage, checkImage, askImage, listImage, splitPack, joinPack};
 use meaning::Answer;
 
 #[no_mangle]
@@ -27,10 +27,24 @@ pub extern "C" fn plq_image_of_parents(parents: &[u32], image: &mut [u8]) -> Ans
 }
 
 #[no_mangle]
+pub extern "C" fn plq_image_with_metres(parents: &[u32], metres: &[u32], image: &mut [u8]) -> Answer
+    ensures { λ r. ⌜ cameTo r (now (image .exit)) ≡ imageWithMetres (now (parents .entry)) (now (metres .entry)) (now (image .entry)) ⌝ }
+{
+    call_image_with_metres::image_with_metres(parents, metres, image)
+}
+
+#[no_mangle]
 pub extern "C" fn plq_parents_of_image(image: &[u8], parents: &mut [u32]) -> Answer
     ensures { λ r. ⌜ cameTo r (now (parents .exit)) ≡ parentsOfImage (now (image .entry)) (now (parents .entry)) ⌝ }
 {
     call_parents_of_image::parents_of_image(image, parents)
+}
+
+#[no_mangle]
+pub extern "C" fn plq_metres_of_image(image: &[u8], metres: &mut [u32]) -> Answer
+    ensures { λ r. ⌜ cameTo r (now (metres .exit)) ≡ metresOfImage (now (image .entry)) (now (metres .entry)) ⌝ }
+{
+    call_metres_of_image::metres_of_image(image, metres)
 }
 
 #[no_mangle]

@@ -5,8 +5,11 @@ ghost use Prim.Native.Nat.{_+_, _*_, _≤_};
 ghost use lib.ListN.{length, drop, replicate};
 ghost use Rattle.theory.specs.Bounds.{mostBlock};
 ghost use Rattle.meaning.specs.Image.{stringBlocks};
-ghost use Rattle.seal_frame.specs.Passes.{CountsWritten, headed};
+ghost use Rattle.seal_frame.specs.Passes.{CountsWritten, versionAt, headed};
 use image_layout::Layout;
+use image_layout::MetresAt;
+use meaning::TREE_ALONE;
+use meaning::WITH_METRES;
 
 // The first so many bytes become 0.
 pub fn clear(image: &mut [u8], bytes: usize)
@@ -38,12 +41,23 @@ pub fn put_counts(image: &mut [u8], bits_block: usize, n: usize)
     }
 }
 
+// The version of an image whose metres are there.
+fn version_at(metres: MetresAt) -> u32
+    ensures { λ r. ⌜ r ≡ versionAt metres ⌝ }
+{
+    match metres {
+        MetresAt::Nowhere => TREE_ALONE,
+        MetresAt::From(_) => WITH_METRES,
+    }
+}
+
 // The four words of the header.
 pub fn put_header(image: &mut [u8], layout: Layout)
     requires { ⌜ 512 ≤ length (now image) ⌝ }
-    ensures { λ _. ⌜ now (image .exit) ≡ headed (now (image .entry)) (layout .nodes) (layout .runs) (layout .blocks) ⌝ }
+    ensures { λ _. ⌜ now (image .exit) ≡ headed (now (image .entry)) (versionAt (layout .metres)) (layout .nodes) (layout .runs) (layout .blocks) ⌝ }
 {
-    image_words::put_word(image, 0, 1);
+    let metres = layout.metres;
+    image_words::put_word(image, 0, version_at(metres));
     image_words::put_word(image, 4, layout.nodes);
     image_words::put_word(image, 8, layout.runs);
     image_words::put_word(image, 12, layout.blocks);

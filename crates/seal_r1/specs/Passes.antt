@@ -12,7 +12,7 @@ use Rattle.meaning.specs.Bytes.{bitAt}
 use Rattle.meaning.specs.Image.{stringBlocks, samples}
 use Rattle.theory.specs.Layout.{wordAt, bitPlace, samplePlace}
 use Rattle.theory.specs.Rank.{position}
-use Rattle.theory.specs.Stages.{blocksOfSamples, r0Block, r1Samples, blocksNeeded}
+use Rattle.theory.specs.Stages.{blocksOfSamples, r0Block, r1Samples, metresBlock}
 use Rattle.bits_byte.specs.Byte.{byteBits}
 use Rattle.image_words.specs.Words.{withWord}
 use Rattle.seal_r1_bits.specs.Listed.{runsIn}
@@ -27,8 +27,9 @@ pub record Part (bytes : List ℕ) (from B at S : ℕ) (r : List Bit) : Type 0 w
 
 -- ---- the pass over the list
 
-abbrev pub blocksFor : List ℕ → ℕ
-blocksFor ps = blocksNeeded (length ps) (runsIn ps)
+-- the blocks of the tree alone: the header, both strings and their samples
+abbrev pub treeBlocks : List ℕ → ℕ
+treeBlocks ps = metresBlock (length ps) (runsIn ps)
 
 -- zeros in B blocks from block `from` on
 abbrev pub Blank : List ℕ → ℕ → ℕ → Type 0
@@ -80,12 +81,12 @@ pub record RoomForStrings (bytes ps : List ℕ) (zeros first second : ℕ) : Typ
   pub isR0 : zeros ≡ r0Block (length ps)
   pub isFirst : first ≡ r1Samples (length ps)
   pub isSecond : second ≡ r1Samples (length ps) + blocksOfSamples (runsIn ps)
-  pub room : 512 * blocksFor ps ≤ length bytes
-  pub blank : (q : ℕ) → q < 512 * blocksFor ps → getD bytes q 0 ≡ 0
+  pub room : 512 * treeBlocks ps ≤ length bytes
+  pub blank : (q : ℕ) → q < 512 * treeBlocks ps → getD bytes q 0 ≡ 0
 
 -- the two strings and their samples are there
 pub record StringsWritten (old bytes ps : List ℕ) : Type 0 where
   pub first : Part bytes 1 (stringBlocks (length ps)) (r1Samples (length ps)) (blocksOfSamples (runsIn ps)) (R1 (stringOf ps))
   pub second : Part bytes (r0Block (length ps)) (stringBlocks (length ps + 1)) (r1Samples (length ps) + blocksOfSamples (runsIn ps)) (blocksOfSamples (runsIn ps)) (R0 (stringOf ps))
   pub head : (q : ℕ) → q < 512 → getD bytes q 0 ≡ 0
-  pub tail : (q : ℕ) → 512 * blocksFor ps ≤ q → getD bytes q 0 ≡ getD old q 0
+  pub tail : (q : ℕ) → 512 * treeBlocks ps ≤ q → getD bytes q 0 ≡ getD old q 0

@@ -6,11 +6,11 @@ use Prim.Native.Nat.{ℕ, _/_, _%_, _≤_}
 use lib.ListN.{length}
 use Rattle.meaning.specs.Tests.{wrongSize}
 
--- whole blocks, 5 to 53 of them
+-- whole blocks, 5 to 574 of them
 pub record ImageSized (bytes : ℕ) : Type 0 where
   pub whole : bytes % 512 ≡ 0
   pub some : 5 ≤ bytes / 512
-  pub most : bytes / 512 ≤ 53
+  pub most : bytes / 512 ≤ 574
 
 -- what the test of the size tells of any image with so many bytes
 abbrev pub ImageSize : Bool → ℕ → Type 0

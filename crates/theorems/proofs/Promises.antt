@@ -33,7 +33,7 @@ use Rattle.theory.proofs.OwnAnswers.{own-answer}
 use Rattle.theory.proofs.Depths.{not-deep, deep-none, listing-whole, first-deep}
 use Rattle.theory.proofs.ByStrings.{answers-by-strings}
 use Rattle.theory.proofs.Payloads.{sample-at}
-use Rattle.theory.proofs.TreeImages.{parents-in, image-injective, is-image, image-laid, image-size, image-checks, image-least, image-most}
+use Rattle.theory.proofs.TreeImages.{parents-in, metres-in, image-injective, is-image, image-laid, totalOf, image-size, image-checks, image-least, image-most, image-most-alone}
 use Rattle.theory.proofs.Packing.{packed-length, packed-leftover, packed-read, read-packed}
 use Rattle.theory.proofs.Packs.{starts-are, sizes-are, found-is, part-is}
 
@@ -168,12 +168,12 @@ image-accepted bytes = is-image bytes
 
 pub image-back : P.ImageBack
 unfolding image
-image-back t h = (ap imageOfString (string-parents t), parents-in t h, λ u g e. image-injective t u h g e)
+image-back c h = (ap (imageOfString (c .metres)) (string-parents (c .tree)), parents-in c h, metres-in c h, λ d g e. image-injective c d h g e)
 
 pub image-has-blocks : P.ImageBlocks
-image-has-blocks t h =
-    let n : blocksIn (image t) ≡ total (R1 (lbs t)) (R0 (lbs t)) = omega (arith, image-size t) in
-    (omega (arith, image-size t), omega (arith, image-least t), omega (arith, image-most t h), image-checks t)
+image-has-blocks c h =
+    let n : blocksIn (image c) ≡ totalOf c = omega (arith, image-size c) in
+    (omega (arith, image-size c), omega (arith, image-least c), omega (arith, image-most c h), λ e. omega (arith, image-most-alone c h e), image-checks c)
 
 pub image-is-laid : P.ImageLaid
 image-is-laid bytes b = image-laid bytes b

@@ -4,6 +4,7 @@
 use mathlib.Core.Path.{_≡_}
 use mathlib.Core.Bool.{true, false}
 use mathlib.Core.List.{List, [], _∷_, _++_, map}
+use mathlib.Core.Option.{Option, none}
 use mathlib.Core.Logic.{_↔_}
 use Prim.Native.Nat.{ℕ, suc, _+_, _-_, _*_, _≤_, _<_}
 use lib.IntN.{ℤ, pos}
@@ -13,7 +14,7 @@ use Rattle.meaning.specs.Parents.{parents, entry, IsParents, Lowest, badEntry}
 use Rattle.meaning.specs.Strings.{Bit, O, I, ones, zeros, lbs, strings, R1, R0, parentsOf, stringOf, woven}
 use Rattle.meaning.specs.Bytes.{bitsFrom, bytesFor, leftover, packed}
 use Rattle.meaning.specs.Blocks.{blocksIn, wrongBlock}
-use Rattle.meaning.specs.Image.{imageOfString, image, parentsIn, isImage, samples}
+use Rattle.meaning.specs.Image.{Content, Measured, FitImage, imageOfString, image, parentsIn, metresIn, isImage, samples}
 use Rattle.meaning.specs.Scan.{Kind, one, many, Small, Place, place}
 use Rattle.meaning.specs.Packs.{startsOf, sizesOf, sizes, starts}
 use Rattle.meaning.specs.Questions.{Ask, childrenOf, siblingsOf, rankOf, siblingAt, answer}
@@ -170,28 +171,30 @@ OwnListing = (t : Tree) (x : ℕ) → 1 ≤ x → x ≤ nodes t
 
 -- ---- Demand 2: images.
 
--- bytes are an image exactly if some tree of 1 to 65,535 nodes gives them
+-- bytes are an image exactly if some tree of 1 to 65,535 nodes, with metres or without, gives them
 abbrev pub ImageAccepted : Type 0
-ImageAccepted = (bytes : List ℕ) → (isImage bytes ≡ true) ↔ ((t : Tree) × (nodes t ≤ 65535) × (image t ≡ bytes))
+ImageAccepted = (bytes : List ℕ) → (isImage bytes ≡ true) ↔ ((c : Content) × FitImage c × (image c ≡ bytes))
 
--- the same tree comes back from its image; two trees never give one image
+-- the same tree comes back from its image, and its metres, if it has any; two trees never give one
+-- image, and nor do a tree with metres and the same tree with others or without
 abbrev pub ImageBack : Type 0
-ImageBack = (t : Tree) → nodes t ≤ 65535
-    → (imageOfString (stringOf (parents t)) ≡ image t) × (parentsIn (image t) ≡ parents t)
-    × ((u : Tree) → nodes u ≤ 65535 → image t ≡ image u → t ≡ u)
+ImageBack = (c : Content) → FitImage c
+    → (imageOfString (c .metres) (stringOf (parents (c .tree))) ≡ image c) × (parentsIn (image c) ≡ parents (c .tree)) × (metresIn (image c) ≡ c .metres)
+    × ((d : Content) → FitImage d → image c ≡ image d → c ≡ d)
 
--- an image has whole blocks, 5 to 53 of them, and all of them check
+-- an image has whole blocks, 5 to 574 of them, without metres 5 to 53, and all of them check
 abbrev pub ImageBlocks : Type 0
-ImageBlocks = (t : Tree) → nodes t ≤ 65535
-    → (length (image t) ≡ 512 * blocksIn (image t)) × (5 ≤ blocksIn (image t)) × (blocksIn (image t) ≤ 53) × (wrongBlock (image t) ≡ blocksIn (image t))
+ImageBlocks = (c : Content) → FitImage c
+    → (length (image c) ≡ 512 * blocksIn (image c)) × (5 ≤ blocksIn (image c)) × (blocksIn (image c) ≤ 574) × (c .metres ≡ none → blocksIn (image c) ≤ 53)
+    × (wrongBlock (image c) ≡ blocksIn (image c))
 
--- what R1, R0, counts, samples and padding must be for some tree to give these bytes, and that this
--- is enough
+-- what R1, R0, counts, samples, metres and padding must be for some tree to give these bytes, and
+-- that this is enough
 abbrev pub ImageLaid : Type 0
 ImageLaid = (bytes : List ℕ) → AreBytes bytes
-    → ((t : Tree) × (nodes t ≤ 65535) × (image t ≡ bytes))
-    ↔ ((m : ℕ) × (a : List Bit) × (b : List Bit) × Runs m a × Runs m b
-    × (length b ≡ suc (length a)) × (length a ≤ 65535) × IsParents (parentsOf (woven a b)) × Laid bytes a b)
+    → ((c : Content) × FitImage c × (image c ≡ bytes))
+    ↔ ((m : ℕ) × (ms : Option (List ℕ)) × (a : List Bit) × (b : List Bit) × Runs m a × Runs m b
+    × (length b ≡ suc (length a)) × (length a ≤ 65535) × Measured (length a) ms × IsParents (parentsOf (woven a b)) × Laid bytes ms a b)
 
 -- sample number j, from 0, is the position of one number 64 j + 1
 abbrev pub SamplesAre : Type 0

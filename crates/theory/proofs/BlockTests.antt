@@ -19,7 +19,7 @@ use Rattle.theory.specs.Faults.{BlockKept, RestKept, BlockSampled}
 use Rattle.theory.proofs.Digits.{bytesOf-bit, take-bytes, drop-bytes, wordAt-take, wordAt-drop, length-wordBytes, words-bytes, same-words}
 use Rattle.theory.proofs.Sealing.{same-refl, same-eq, length-padded, padded-at, padded-bytes, padded-word}
 use Rattle.theory.proofs.Payloads.{length-samples, sample-word, string-word, string-bytes}
-use Rattle.theory.proofs.Images.{stringPayload, samplePayload}
+use Rattle.theory.proofs.Images.{stringPayload, listPayload, samplePayload}
 use Rattle.theory.proofs.TreeImages.{length-stringIn}
 use Rattle.theory.proofs.InBlocks.{stringIn-take}
 use Rattle.theory.proofs.Stages.{block-word}
@@ -106,6 +106,9 @@ module _ (bytes : List ℕ) (from : ℕ) (r : List Bit) (j : ℕ) (fits : 512 * 
         λ e w h. t .1 e w h ∙ sample-word r j w few h,
       )
 
+-- ---- what comes after the last number of a list
+
+module _ (bytes : List ℕ) (from : ℕ) (ws : List ℕ) (j : ℕ) (fits : 512 * (from + j + 1) ≤ length bytes) where
   -- a word is zero exactly if its bytes are
   zero-bytes : (q : ℕ) → wordAt bytes q ≡ 0 → (k : ℕ) → k < 4 → getD bytes (q + k) 0 ≡ 0
   unfolding wordAt
@@ -121,47 +124,46 @@ module _ (bytes : List ℕ) (from : ℕ) (r : List Bit) (j : ℕ) (fits : 512 * 
       let first : getD bytes q 0 ≡ 0 = ap (λ i. getD bytes i 0) (let e : q ≡ q + 0 = omega arith in e) ∙ f 0 (omega arith) in
       omega (arith, f 1 (omega arith), f 2 (omega arith), f 3 (omega arith))
 
-  -- byte i after the samples, and where the samples end
-  module _ (m : ℕ) (count : ones r ≡ m) where
-    abbrev here : List ℕ
-    here = samplePayload r j
+  -- byte i after the numbers, and where they end
+  abbrev here : List ℕ
+  here = listPayload ws j
 
-    used : length here ≡ 4 * length (take 126 (drop (126 * j) (samples r)))
-    used = length-wordBytes (take 126 (drop (126 * j) (samples r)))
+  used : length here ≡ 4 * length (take 126 (drop (126 * j) ws))
+  used = length-wordBytes (take 126 (drop (126 * j) ws))
 
-    padded-after : (i : ℕ) → i < 504 → length here ≤ i → getD (padded here) i 0 ≡ 0
-    padded-after i h g = padded-at here i h ∙ List·getD-eq-default here 0 g
+  padded-after : (i : ℕ) → i < 504 → length here ≤ i → getD (padded here) i 0 ≡ 0
+  padded-after i h g = padded-at here i h ∙ List·getD-eq-default here 0 g
 
-    rest-zero : RestKept bytes from m j → zeroAfter here (payloadAt bytes (from + j)) ≡ true
-    rest-zero f =
-        let k = length here in
-        let x = payloadAt bytes (from + j) in
-        let lp = length-drop k (padded here) in
-        let lx = length-drop k x in
-        let lo = length-padded here in
-        let ly = length-payload bytes (from + j) fits in
-        let same-rest : drop k (padded here) ≡ drop k x = ext-getD 0 (drop k (padded here)) (drop k x) (omega arith)
-        (λ i h. getD-drop k (padded here) i 0 ∙ padded-after (k + i) (omega arith) (omega arith)
-        ∙ sym (getD-drop k x i 0 ∙ payload-byte bytes (from + j) fits (k + i) (omega arith)
-        ∙ ap (λ q. getD bytes q 0) (let e : 512 * (from + j) + (k + i) ≡ 512 * (from + j) + 4 * ((k + i) / 4) + (k + i) % 4 = omega arith in e)
-        ∙ zero-bytes (512 * (from + j) + 4 * ((k + i) / 4))
-        (f ((k + i) / 4) (omega arith) (omega (arith, used, length-take 126 (drop (126 * j) (samples r)), length-drop (126 * j) (samples r), length-samples r)))
-        ((k + i) % 4) (omega arith))) in
-        ap (same (drop k (padded here))) (sym same-rest) ∙ same-refl (drop k (padded here))
+  rest-zero : RestKept bytes from (length ws) j → zeroAfter here (payloadAt bytes (from + j)) ≡ true
+  rest-zero f =
+      let k = length here in
+      let x = payloadAt bytes (from + j) in
+      let lp = length-drop k (padded here) in
+      let lx = length-drop k x in
+      let lo = length-padded here in
+      let ly = length-payload bytes (from + j) fits in
+      let same-rest : drop k (padded here) ≡ drop k x = ext-getD 0 (drop k (padded here)) (drop k x) (omega arith)
+      (λ i h. getD-drop k (padded here) i 0 ∙ padded-after (k + i) (omega arith) (omega arith)
+      ∙ sym (getD-drop k x i 0 ∙ payload-byte bytes (from + j) fits (k + i) (omega arith)
+      ∙ ap (λ q. getD bytes q 0) (let e : 512 * (from + j) + (k + i) ≡ 512 * (from + j) + 4 * ((k + i) / 4) + (k + i) % 4 = omega arith in e)
+      ∙ zero-bytes (512 * (from + j) + 4 * ((k + i) / 4))
+      (f ((k + i) / 4) (omega arith) (omega (arith, used, length-take 126 (drop (126 * j) ws), length-drop (126 * j) ws)))
+      ((k + i) % 4) (omega arith))) in
+      ap (same (drop k (padded here))) (sym same-rest) ∙ same-refl (drop k (padded here))
 
-    zero-rest : zeroAfter here (payloadAt bytes (from + j)) ≡ true → RestKept bytes from m j
-    zero-rest e w h g =
-        let k = length here in
-        let x = payloadAt bytes (from + j) in
-        let same-rest = same-eq (drop k (padded here)) (drop k x) e in
-        bytes-zero (512 * (from + j) + 4 * w) (λ i l.
-        let at : k ≤ 4 * w + i = omega (arith, used, length-take 126 (drop (126 * j) (samples r)), length-drop (126 * j) (samples r), length-samples r) in
-        let o = 4 * w + i - k in
-        ap (λ q. getD bytes q 0) (let e : 512 * (from + j) + 4 * w + i ≡ 512 * (from + j) + (4 * w + i) = omega arith in e)
-        ∙ sym (payload-byte bytes (from + j) fits (4 * w + i) (omega arith))
-        ∙ ap (λ q. getD x q 0) (let e : 4 * w + i ≡ k + o = omega arith in e)
-        ∙ sym (getD-drop k x o 0) ∙ ap (λ z. getD z o 0) (sym same-rest) ∙ getD-drop k (padded here) o 0
-        ∙ padded-after (k + o) (omega arith) (omega arith))
+  zero-rest : zeroAfter here (payloadAt bytes (from + j)) ≡ true → RestKept bytes from (length ws) j
+  zero-rest e w h g =
+      let k = length here in
+      let x = payloadAt bytes (from + j) in
+      let same-rest = same-eq (drop k (padded here)) (drop k x) e in
+      bytes-zero (512 * (from + j) + 4 * w) (λ i l.
+      let at : k ≤ 4 * w + i = omega (arith, used, length-take 126 (drop (126 * j) ws), length-drop (126 * j) ws) in
+      let o = 4 * w + i - k in
+      ap (λ q. getD bytes q 0) (let e : 512 * (from + j) + 4 * w + i ≡ 512 * (from + j) + (4 * w + i) = omega arith in e)
+      ∙ sym (payload-byte bytes (from + j) fits (4 * w + i) (omega arith))
+      ∙ ap (λ q. getD x q 0) (let e : 4 * w + i ≡ k + o = omega arith in e)
+      ∙ sym (getD-drop k x o 0) ∙ ap (λ z. getD z o 0) (sym same-rest) ∙ getD-drop k (padded here) o 0
+      ∙ padded-after (k + o) (omega arith) (omega arith))
 
-    pub rest-tested : RestKept bytes from m j ↔ (zeroAfter here (payloadAt bytes (from + j)) ≡ true)
-    rest-tested = (rest-zero, zero-rest)
+  pub rest-tested : RestKept bytes from (length ws) j ↔ (zeroAfter here (payloadAt bytes (from + j)) ≡ true)
+  rest-tested = (rest-zero, zero-rest)

@@ -119,6 +119,11 @@ byte-lt [] h i = omega arith
 byte-lt (x ∷ xs) h zero = h 0 (omega arith)
 byte-lt (x ∷ xs) h (suc i) = byte-lt xs (bytes-tail x xs h) i
 
+-- a word of bytes has 32 bits
+pub word-lt : (bytes : List ℕ) → AreBytes bytes → (p : ℕ) → wordAt bytes p < 2 ^ 32
+unfolding wordAt
+word-lt bytes are p = omega (arith, byte-lt bytes are p, byte-lt bytes are (p + 1), byte-lt bytes are (p + 2), byte-lt bytes are (p + 3))
+
 pub append-bytes : (xs ys : List ℕ) → AreBytes xs → AreBytes ys → AreBytes (xs ++ ys)
 append-bytes [] ys h g i l = g i l
 append-bytes (x ∷ xs) ys h g zero l = h 0 (omega arith)

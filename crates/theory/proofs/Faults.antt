@@ -15,24 +15,25 @@ use Rattle.meaning.specs.Parents.{parents, IsParents}
 use Rattle.meaning.specs.Strings.{Bit, O, I, ones, lbs, R1, R0, parentsOf, stringOf, woven}
 use Rattle.meaning.specs.Bytes.{value}
 use Rattle.meaning.specs.Blocks.{wordBytes, padded, sealed, sumStart, same, blocksIn, wrongBlock}
-use Rattle.meaning.specs.Image.{stringBlocks, samples, stringPart, samplePart, payloads, header, imageOfParts, imageOfString, image, headerWord, stringIn, parentsIn, isTree, isImage}
+use Rattle.meaning.specs.Image.{listOf, listPart, stringBlocks, samples, stringPart, samplePart, headerWord, stringIn, parentsIn, metresIn, isTree}
 use Rattle.meaning.specs.Faults.{someTree, isHeader, r1In, r0In, sameBits, areStrings, payloadAt, whole, zeroAfter, lowestFailing, wrongKept, wrongSample}
 use Rattle.theory.specs.Layout.{Runs, AreBytes, wordAt}
-use Rattle.theory.specs.Stages.{versionOf, nodesOf, runsOf, blocksOfSamples, r0Block, r1Samples, blocksNeeded, readR1, readR0, Header, Ended, InStep, CountsAndPadding}
+use Rattle.theory.specs.Stages.{versionIn, nodesOf, runsOf, heldIn, wordBlocks, samplesOf, metresBlock, blocksOfSamples, r0Block}
+use Rattle.theory.specs.Stages.{r1Samples, blocksNeeded, readR1, readR0, Header, Ended, InStep, CountsAndPadding, MetresEnd}
 use Rattle.theory.specs.Faults.{LowestWrong, BlockKept, RestKept, BlockSampled}
 use Rattle.theory.proofs.Bits.{I≢O}
 use Rattle.theory.proofs.Parents.{are-parents, parents-are}
-use Rattle.theory.proofs.Digits.{byte-lt, take-bytes, words-bytes, wordBytes-at, wordAt-take, same-words}
+use Rattle.theory.proofs.Digits.{word-lt, take-bytes, words-bytes, wordBytes-at, wordAt-take, same-words}
 use Rattle.theory.proofs.Navigate.{parents-bits}
 use Rattle.theory.proofs.Forms.{length-parents, length-R1, length-R0, string-parents, string-parts, tree-of-parts, tree-runs, tree-rule, runs-ones}
 use Rattle.theory.proofs.Sealing.{and-both, same-refl, same-eq, length-padded, padded-bytes, padded-word}
 use Rattle.theory.proofs.TreeImages.{header-at, length-stringIn, is-tree}
 use Rattle.theory.proofs.InStep.{runs-ended, in-step}
-use Rattle.theory.proofs.Payloads.{length-samples}
-use Rattle.theory.proofs.Images.{length-string, length-table, string-part, sample-part}
-use Rattle.theory.proofs.Stages.{parents-read, blocks-kept}
+use Rattle.theory.proofs.Payloads.{length-samples, list-word}
+use Rattle.theory.proofs.Images.{listPayload, length-string, length-list, string-part, list-part}
+use Rattle.theory.proofs.Stages.{metres-count, metre-word, metres-small, parents-read, blocks-kept}
 use Rattle.theory.proofs.LowestWrong.{lowest-one, lowest-none, failing-is, is-failing, first-fails, first-passes}
-use Rattle.theory.proofs.BlockTests.{whole-is, kept-tested, sampled-tested, rest-tested}
+use Rattle.theory.proofs.BlockTests.{whole-is, whole-words, kept-tested, sampled-tested, rest-tested}
 
 -- ---- 12: the header
 
@@ -70,16 +71,12 @@ tree-some n m some most runs few two = ap₂ _&&_ (ap₂ _&&_ (le-leb 1 n some) 
           | no h ↦ ap₂ _&&_ (le-leb 2 m (two (omega arith))) (le-leb m n few)
         ]
 
-word-lt : (bytes : List ℕ) → AreBytes bytes → (p : ℕ) → wordAt bytes p < 2 ^ 32
-unfolding wordAt
-word-lt bytes are p = omega (arith, byte-lt bytes are p, byte-lt bytes are (p + 1), byte-lt bytes are (p + 2), byte-lt bytes are (p + 3))
-
 -- the header's words as a payload
 abbrev pub headerOf : List ℕ → List ℕ
 headerOf bytes = wordBytes (headerWord bytes 0 ∷ headerWord bytes 1 ∷ headerWord bytes 2 ∷ blocksIn bytes ∷ [])
 
 module _ (bytes : List ℕ) (long : 504 ≤ length bytes) where
-  pub version-at : headerWord bytes 0 ≡ versionOf bytes
+  pub version-at : headerWord bytes 0 ≡ versionIn bytes
   version-at = header-at bytes 0 long (omega arith)
 
   pub nodes-at : headerWord bytes 1 ≡ nodesOf bytes
@@ -94,6 +91,9 @@ module _ (bytes : List ℕ) (long : 504 ≤ length bytes) where
   pub r0-at : r0In bytes ≡ readR0 bytes
   r0-at = ap (λ n. stringIn bytes (r0Block n) 0 (n + 1)) nodes-at
 
+  needed-at : blocksNeeded (headerWord bytes 0) (headerWord bytes 1) (headerWord bytes 2) ≡ blocksNeeded (versionIn bytes) (nodesOf bytes) (runsOf bytes)
+  needed-at = ap (λ v. blocksNeeded v (headerWord bytes 1) (headerWord bytes 2)) version-at ∙ ap₂ (blocksNeeded (versionIn bytes)) nodes-at runs-at
+
   -- what a right header tells of any list of numbers
   pub record HeaderTold : Type 0 where
     pub some : 1 ≤ nodesOf bytes
@@ -101,16 +101,17 @@ module _ (bytes : List ℕ) (long : 504 ≤ length bytes) where
     pub runsSome : 1 ≤ runsOf bytes
     pub runsMost : runsOf bytes ≤ nodesOf bytes
     pub runsTwo : 2 ≤ nodesOf bytes → 2 ≤ runsOf bytes
-    pub needed : blocksNeeded (nodesOf bytes) (runsOf bytes) ≡ blocksIn bytes
+    pub needed : blocksNeeded (versionIn bytes) (nodesOf bytes) (runsOf bytes) ≡ blocksIn bytes
     pub words : padded (headerOf bytes) ≡ take 504 bytes
 
   pub header-told : isHeader bytes ≡ true → HeaderTold
   unfolding isHeader
   header-told e =
+      let v = headerWord bytes 0 in
       let n = headerWord bytes 1 in
       let m = headerWord bytes 2 in
-      let p = and-both (someTree n m && eqb (blocksNeeded n m) (blocksIn bytes)) (same (padded (headerOf bytes)) (take 504 bytes)) e in
-      let q = and-both (someTree n m) (eqb (blocksNeeded n m) (blocksIn bytes)) (p .0) in
+      let p = and-both (someTree n m && eqb (blocksNeeded v n m) (blocksIn bytes)) (same (padded (headerOf bytes)) (take 504 bytes)) e in
+      let q = and-both (someTree n m) (eqb (blocksNeeded v n m) (blocksIn bytes)) (p .0) in
       let t = some-tree n m (q .0) in
       let en = nodes-at in
       let em = runs-at in
@@ -120,20 +121,21 @@ module _ (bytes : List ℕ) (long : 504 ≤ length bytes) where
         runsSome = omega (arith, t .2);
         runsMost = omega (arith, t .3);
         runsTwo = λ two. omega (arith, t .4 (omega arith));
-        needed = ap₂ blocksNeeded (sym en) (sym em) ∙ eqb-true (blocksNeeded n m) (blocksIn bytes) (q .1);
+        needed = sym needed-at ∙ eqb-true (blocksNeeded v n m) (blocksIn bytes) (q .1);
         words = same-eq (padded (headerOf bytes)) (take 504 bytes) (p .1);
       }
 
   pub told-header : HeaderTold → isHeader bytes ≡ true
   unfolding isHeader
   told-header t =
+      let v = headerWord bytes 0 in
       let n = headerWord bytes 1 in
       let m = headerWord bytes 2 in
       let en = nodes-at in
       let em = runs-at in
       ap₂ _&&_
       (ap₂ _&&_ (tree-some n m (omega (arith, t .some)) (omega (arith, t .most)) (omega (arith, t .runsSome)) (omega (arith, t .runsMost)) (λ two. omega (arith, t .runsTwo (omega arith))))
-      (eq-eqb (blocksNeeded n m) (blocksIn bytes) (ap₂ blocksNeeded en em ∙ t .needed)))
+      (eq-eqb (blocksNeeded v n m) (blocksIn bytes) (needed-at ∙ t .needed)))
       (ap (same (padded (headerOf bytes))) (sym (t .words)) ∙ same-refl (padded (headerOf bytes)))
 
   -- of bytes it is the header of the stages
@@ -309,13 +311,10 @@ afterSamples bytes r from = lowestFailing (map zeroAfter (samplePart r)) bytes f
 abbrev pub inSamples : List ℕ → List Bit → ℕ → ℕ
 inSamples bytes r from = lowestFailing (map whole (samplePart r)) bytes from
 
-module _ (bytes : List ℕ) (a b : List Bit) where
-  abbrev strings : List (List ℕ → Bool)
-  strings = map whole (stringPart a ++ stringPart b)
+abbrev pub inMetres : List ℕ → ℕ → ℕ
+inMetres bytes from = lowestFailing (map whole (listPart (listOf (metresIn bytes)))) bytes from
 
-  abbrev rests : List (List ℕ → Bool)
-  rests = map zeroAfter (samplePart a ++ samplePart b)
-
+module _ (bytes : List ℕ) where
   length-group : (test : List ℕ → List ℕ → Bool) (ps : List (List ℕ)) → length (map test ps) ≡ length ps
   length-group test ps = length-map ps test
 
@@ -330,21 +329,13 @@ module _ (bytes : List ℕ) (a b : List Bit) where
       ap (λ ts. lowestFailing ts bytes from) (both test xs ys) ∙ first-passes bytes (map test xs) (map test ys) from one e
       ∙ ap (lowestFailing (map test ys) bytes) (let e : from + length (map test xs) ≡ then = omega (arith, length-group test xs) in e)
 
-  -- the four groups of code 14
-  kept-strings : (lowestFailing strings bytes 1 ≡ 0 → ⊥) → lowestFailing (strings ++ rests) bytes 1 ≡ lowestFailing strings bytes 1
-  kept-strings n = first-fails bytes strings rests 1 n
-
-  kept-rests : (then : ℕ) → then ≡ 1 + length (stringPart a) + length (stringPart b) → lowestFailing strings bytes 1 ≡ 0
-      → lowestFailing (strings ++ rests) bytes 1 ≡ lowestFailing rests bytes then
-  kept-rests then at e =
-      first-passes bytes strings rests 1 (omega arith) e
-      ∙ ap (lowestFailing rests bytes)
-      (let e : 1 + length strings ≡ then = omega (arith, length-group whole (stringPart a ++ stringPart b), length-append (stringPart a) (stringPart b)) in e)
-
 -- where n and m are those of the strings
 module _ (bytes : List ℕ) (long : 504 ≤ length bytes) (ended1 : Ended (runsOf bytes) (readR1 bytes)) where
   abbrev n : ℕ
   n = nodesOf bytes
+
+  abbrev m : ℕ
+  m = runsOf bytes
 
   blocks1 : length (stringPart (readR1 bytes)) ≡ stringBlocks n
   blocks1 = omega (arith, length-string (readR1 bytes), length-stringIn bytes 1 0 n)
@@ -352,43 +343,90 @@ module _ (bytes : List ℕ) (long : 504 ≤ length bytes) (ended1 : Ended (runsO
   blocks0 : length (stringPart (readR0 bytes)) ≡ stringBlocks (n + 1)
   blocks0 = omega (arith, length-string (readR0 bytes), length-stringIn bytes (r0Block n) 0 (n + 1))
 
-  tables1 : length (samplePart (readR1 bytes)) ≡ blocksOfSamples (runsOf bytes)
-  tables1 = omega (arith, length-table (readR1 bytes), length-samples (readR1 bytes), ended1 .count)
+  tables1 : length (samplePart (readR1 bytes)) ≡ blocksOfSamples m
+  tables1 = omega (arith, length-list (samples (readR1 bytes)), length-samples (readR1 bytes), ended1 .count)
 
-  -- what code 14 names: of R1, else of R0, else after the samples of R1, else after those of R0
-  pub kept-read : wrongKept bytes
-      ≡ lowestFailing (map whole (stringPart (readR1 bytes) ++ stringPart (readR0 bytes)) ++ map zeroAfter (samplePart (readR1 bytes) ++ samplePart (readR0 bytes))) bytes 1
+  -- the groups of code 14: the strings, what comes after the samples, the metres
+  abbrev pub stringsRead : List (List ℕ)
+  stringsRead = stringPart (readR1 bytes) ++ stringPart (readR0 bytes)
+
+  abbrev pub tablesRead : List (List ℕ)
+  tablesRead = samplePart (readR1 bytes) ++ samplePart (readR0 bytes)
+
+  abbrev pub metresRead : List (List ℕ)
+  metresRead = listPart (listOf (metresIn bytes))
+
+  abbrev front : List (List ℕ → Bool)
+  front = map whole stringsRead ++ map zeroAfter tablesRead
+
+  pub kept-read : wrongKept bytes ≡ lowestFailing (map whole stringsRead ++ map zeroAfter tablesRead ++ map whole metresRead) bytes 1
   unfolding wrongKept
   kept-read =
-      ap₂ (λ x y. lowestFailing (map whole (stringPart x ++ stringPart y) ++ map zeroAfter (samplePart x ++ samplePart y)) bytes 1) (r1-at bytes long) (r0-at bytes long)
+      ap₂ (λ x y. lowestFailing (map whole (stringPart x ++ stringPart y) ++ map zeroAfter (samplePart x ++ samplePart y) ++ map whole metresRead) bytes 1) (r1-at bytes long) (r0-at bytes long)
 
+  -- a block before the metres
+  kept-front : (r : ℕ) → (r ≡ 0 → ⊥) → lowestFailing front bytes 1 ≡ r → wrongKept bytes ≡ r
+  kept-front r wrong e = kept-read ∙ first-fails bytes front (map whole metresRead) 1 (λ z. wrong (sym e ∙ z)) ∙ e
+
+  -- what code 14 names: of R1, else of R0, else after the samples of R1, else after those of R0,
+  -- else after the metres
   pub kept-in-R1 : (inString bytes (readR1 bytes) 1 ≡ 0 → ⊥) → wrongKept bytes ≡ inString bytes (readR1 bytes) 1
   kept-in-R1 wrong =
-      let a = readR1 bytes in
-      let b = readR0 bytes in
-      let first = group-first bytes a b whole (stringPart a) (stringPart b) 1 wrong in
-      kept-read ∙ kept-strings bytes a b (λ e. wrong (sym first ∙ e)) ∙ first
+      let first = group-first bytes whole (stringPart (readR1 bytes)) (stringPart (readR0 bytes)) 1 wrong in
+      kept-front (inString bytes (readR1 bytes) 1) wrong (first-fails bytes (map whole stringsRead) (map zeroAfter tablesRead) 1 (λ e. wrong (sym first ∙ e)) ∙ first)
 
   module _ (right1 : inString bytes (readR1 bytes) 1 ≡ 0) where
-    strings-second : lowestFailing (map whole (stringPart (readR1 bytes) ++ stringPart (readR0 bytes))) bytes 1 ≡ inString bytes (readR0 bytes) (r0Block n)
-    strings-second = group-second bytes (readR1 bytes) (readR0 bytes) whole (stringPart (readR1 bytes)) (stringPart (readR0 bytes)) 1 (r0Block n) (omega arith) (omega (arith, blocks1)) right1
+    strings-second : lowestFailing (map whole stringsRead) bytes 1 ≡ inString bytes (readR0 bytes) (r0Block n)
+    strings-second = group-second bytes whole (stringPart (readR1 bytes)) (stringPart (readR0 bytes)) 1 (r0Block n) (omega arith) (omega (arith, blocks1)) right1
 
     pub kept-in-R0 : (inString bytes (readR0 bytes) (r0Block n) ≡ 0 → ⊥) → wrongKept bytes ≡ inString bytes (readR0 bytes) (r0Block n)
-    kept-in-R0 wrong = kept-read ∙ kept-strings bytes (readR1 bytes) (readR0 bytes) (λ e. wrong (sym strings-second ∙ e)) ∙ strings-second
+    kept-in-R0 wrong =
+        kept-front (inString bytes (readR0 bytes) (r0Block n)) wrong
+        (first-fails bytes (map whole stringsRead) (map zeroAfter tablesRead) 1 (λ e. wrong (sym strings-second ∙ e)) ∙ strings-second)
 
     module _ (right0 : inString bytes (readR0 bytes) (r0Block n) ≡ 0) where
-      rests-first : wrongKept bytes ≡ lowestFailing (map zeroAfter (samplePart (readR1 bytes) ++ samplePart (readR0 bytes))) bytes (r1Samples n)
-      rests-first = kept-read ∙ kept-rests bytes (readR1 bytes) (readR0 bytes) (r1Samples n) (omega (arith, blocks1, blocks0)) (strings-second ∙ right0)
+      rests-first : lowestFailing front bytes 1 ≡ lowestFailing (map zeroAfter tablesRead) bytes (r1Samples n)
+      rests-first =
+          first-passes bytes (map whole stringsRead) (map zeroAfter tablesRead) 1 (omega arith) (strings-second ∙ right0)
+          ∙ ap (lowestFailing (map zeroAfter tablesRead) bytes)
+          (let e : 1 + length (map whole stringsRead) ≡ r1Samples n =
+          omega (arith, length-group bytes whole stringsRead, length-append (stringPart (readR1 bytes)) (stringPart (readR0 bytes)), blocks1, blocks0) in e)
 
       pub kept-after-S1 : (afterSamples bytes (readR1 bytes) (r1Samples n) ≡ 0 → ⊥) → wrongKept bytes ≡ afterSamples bytes (readR1 bytes) (r1Samples n)
       kept-after-S1 wrong =
-          rests-first ∙ group-first bytes (readR1 bytes) (readR0 bytes) zeroAfter (samplePart (readR1 bytes)) (samplePart (readR0 bytes)) (r1Samples n) wrong
+          kept-front (afterSamples bytes (readR1 bytes) (r1Samples n)) wrong
+          (rests-first ∙ group-first bytes zeroAfter (samplePart (readR1 bytes)) (samplePart (readR0 bytes)) (r1Samples n) wrong)
 
-      pub kept-after-S0 : afterSamples bytes (readR1 bytes) (r1Samples n) ≡ 0 → wrongKept bytes ≡ afterSamples bytes (readR0 bytes) (r1Samples n + blocksOfSamples (runsOf bytes))
-      kept-after-S0 right =
-          rests-first
-          ∙ group-second bytes (readR1 bytes) (readR0 bytes) zeroAfter (samplePart (readR1 bytes)) (samplePart (readR0 bytes)) (r1Samples n) (r1Samples n + blocksOfSamples (runsOf bytes))
-          (omega arith) (omega (arith, tables1)) right
+      module _ (rightS1 : afterSamples bytes (readR1 bytes) (r1Samples n) ≡ 0) where
+        front-last : lowestFailing front bytes 1 ≡ afterSamples bytes (readR0 bytes) (r1Samples n + blocksOfSamples m)
+        front-last =
+            rests-first
+            ∙ group-second bytes zeroAfter (samplePart (readR1 bytes)) (samplePart (readR0 bytes)) (r1Samples n) (r1Samples n + blocksOfSamples m) (omega arith) (omega (arith, tables1)) rightS1
+
+        pub kept-after-S0 : (afterSamples bytes (readR0 bytes) (r1Samples n + blocksOfSamples m) ≡ 0 → ⊥) → wrongKept bytes ≡ afterSamples bytes (readR0 bytes) (r1Samples n + blocksOfSamples m)
+        kept-after-S0 wrong = kept-front (afterSamples bytes (readR0 bytes) (r1Samples n + blocksOfSamples m)) wrong front-last
+
+        pub kept-after-metres : Ended m (readR0 bytes) → afterSamples bytes (readR0 bytes) (r1Samples n + blocksOfSamples m) ≡ 0 → wrongKept bytes ≡ inMetres bytes (metresBlock n m)
+        kept-after-metres ended0 rightS0 =
+            kept-read ∙ first-passes bytes front (map whole metresRead) 1 (omega arith) (front-last ∙ rightS0)
+            ∙ ap (lowestFailing (map whole metresRead) bytes) front-long
+          where
+            front-long : 1 + length front ≡ metresBlock n m
+            front-long =
+                omega (
+                  arith,
+                  length-append (map whole stringsRead) (map zeroAfter tablesRead),
+                  length-group bytes whole stringsRead,
+                  length-group bytes zeroAfter tablesRead,
+                  length-append (stringPart (readR1 bytes)) (stringPart (readR0 bytes)),
+                  length-append (samplePart (readR1 bytes)) (samplePart (readR0 bytes)),
+                  blocks1,
+                  blocks0,
+                  tables1,
+                  length-list (samples (readR0 bytes)),
+                  length-samples (readR0 bytes),
+                  ended0 .count,
+                )
 
   -- what code 15 names: of the samples of R1, else of R0
   pub sample-read : wrongSample bytes ≡ lowestFailing (map whole (samplePart (readR1 bytes) ++ samplePart (readR0 bytes))) bytes (r1Samples n)
@@ -398,12 +436,12 @@ module _ (bytes : List ℕ) (long : 504 ≤ length bytes) (ended1 : Ended (runsO
       ∙ ap (λ k. lowestFailing (map whole (samplePart (readR1 bytes) ++ samplePart (readR0 bytes))) bytes (r1Samples k)) (nodes-at bytes long)
 
   pub sample-in-S1 : (inSamples bytes (readR1 bytes) (r1Samples n) ≡ 0 → ⊥) → wrongSample bytes ≡ inSamples bytes (readR1 bytes) (r1Samples n)
-  sample-in-S1 wrong = sample-read ∙ group-first bytes (readR1 bytes) (readR0 bytes) whole (samplePart (readR1 bytes)) (samplePart (readR0 bytes)) (r1Samples n) wrong
+  sample-in-S1 wrong = sample-read ∙ group-first bytes whole (samplePart (readR1 bytes)) (samplePart (readR0 bytes)) (r1Samples n) wrong
 
   pub sample-in-S0 : inSamples bytes (readR1 bytes) (r1Samples n) ≡ 0 → wrongSample bytes ≡ inSamples bytes (readR0 bytes) (r1Samples n + blocksOfSamples (runsOf bytes))
   sample-in-S0 right =
       sample-read
-      ∙ group-second bytes (readR1 bytes) (readR0 bytes) whole (samplePart (readR1 bytes)) (samplePart (readR0 bytes)) (r1Samples n) (r1Samples n + blocksOfSamples (runsOf bytes))
+      ∙ group-second bytes whole (samplePart (readR1 bytes)) (samplePart (readR0 bytes)) (r1Samples n) (r1Samples n + blocksOfSamples (runsOf bytes))
       (omega arith) (omega (arith, tables1)) right
 
 -- ---- each group by what is looked at in its blocks
@@ -422,23 +460,47 @@ module _ (bytes : List ℕ) (are : AreBytes bytes) where
     lowest-in-string r w = lowest-one (BlockKept bytes first n) first (stringBlocks n) r (inString bytes (stringIn bytes first 0 n) first) w lowest-string
 
   module _ (from m : ℕ) (s : List Bit) (count : ones s ≡ m) (few : length s ≤ 65536) (fits : 512 * (from + blocksOfSamples m) ≤ length bytes) where
-    tables : length (samplePart s) ≡ blocksOfSamples m
-    tables = omega (arith, length-table s, length-samples s)
-
-    pub lowest-rest : LowestWrong (RestKept bytes from m) from (blocksOfSamples m) (afterSamples bytes s from)
+    pub lowest-rest : LowestWrong (RestKept bytes from (samplesOf m)) from (blocksOfSamples m) (afterSamples bytes s from)
     lowest-rest =
-        failing-is zeroAfter bytes (samplePart s) from (blocksOfSamples m) tables (RestKept bytes from m)
-        (λ j h. subst (λ p. RestKept bytes from m j ↔ (zeroAfter p (payloadAt bytes (from + j)) ≡ true)) (sym (sample-part s j (omega (arith, length-samples s))))
-        (rest-tested bytes from s j (omega arith) m count))
+        let ss = samples s in
+        let k : length ss ≡ samplesOf m = omega (arith, length-samples s) in
+        failing-is zeroAfter bytes (samplePart s) from (blocksOfSamples m) (omega (arith, length-list ss)) (RestKept bytes from (samplesOf m))
+        (λ j h. subst (λ p. RestKept bytes from (samplesOf m) j ↔ (zeroAfter p (payloadAt bytes (from + j)) ≡ true)) (sym (list-part ss j (omega arith)))
+        (subst (λ i. RestKept bytes from i j ↔ (zeroAfter (listPayload ss j) (payloadAt bytes (from + j)) ≡ true)) k (rest-tested bytes from ss j (omega arith))))
 
-    pub lowest-after-samples : (r : ℕ) → LowestWrong (RestKept bytes from m) from (blocksOfSamples m) r → r ≡ afterSamples bytes s from
-    lowest-after-samples r w = lowest-one (RestKept bytes from m) from (blocksOfSamples m) r (afterSamples bytes s from) w lowest-rest
+    pub lowest-after-samples : (r : ℕ) → LowestWrong (RestKept bytes from (samplesOf m)) from (blocksOfSamples m) r → r ≡ afterSamples bytes s from
+    lowest-after-samples r w = lowest-one (RestKept bytes from (samplesOf m)) from (blocksOfSamples m) r (afterSamples bytes s from) w lowest-rest
 
     pub lowest-in-samples : (r : ℕ) → LowestWrong (BlockSampled bytes from s) from (blocksOfSamples m) r → r ≡ inSamples bytes s from
     lowest-in-samples =
-        is-failing whole bytes (samplePart s) from (blocksOfSamples m) tables (BlockSampled bytes from s)
-        (λ j h. subst (λ p. BlockSampled bytes from s j ↔ (whole p (payloadAt bytes (from + j)) ≡ true)) (sym (sample-part s j (omega (arith, length-samples s))))
+        is-failing whole bytes (samplePart s) from (blocksOfSamples m) (omega (arith, length-list (samples s), length-samples s)) (BlockSampled bytes from s)
+        (λ j h. subst (λ p. BlockSampled bytes from s j ↔ (whole p (payloadAt bytes (from + j)) ≡ true)) (sym (list-part (samples s) j (omega (arith, length-samples s))))
         (sampled-tested bytes from s j (omega arith) are few))
+
+  -- the metres: of their words only those behind the last can differ from what was read
+  module _ (long : 504 ≤ length bytes) (fits : 512 * (metresBlock (nodesOf bytes) (runsOf bytes) + wordBlocks (heldIn bytes)) ≤ length bytes) where
+    abbrev from : ℕ
+    from = metresBlock (nodesOf bytes) (runsOf bytes)
+
+    abbrev ms : List ℕ
+    ms = listOf (metresIn bytes)
+
+    metres-tested : (j : ℕ) → j < wordBlocks (heldIn bytes) → RestKept bytes from (heldIn bytes) j ↔ (whole (listPayload ms j) (payloadAt bytes (from + j)) ≡ true)
+    metres-tested j h =
+        let t = whole-words bytes (from + j) (omega arith) are (listPayload ms j) (words-bytes (take 126 (drop (126 * j) ms))) in (
+          λ f. t .0 (λ w g. metre-word bytes long j w (f w g) h g ∙ sym (list-word ms j w (metres-small bytes long are (126 * j + w)) g)),
+          λ e w g after. t .1 e w g ∙ list-word ms j w (metres-small bytes long are (126 * j + w)) g
+              ∙ List·getD-eq-default ms 0 (let l : length ms ≤ 126 * j + w = omega (arith, metres-count bytes long) in l),
+        )
+
+    pub lowest-metres : LowestWrong (RestKept bytes from (heldIn bytes)) from (wordBlocks (heldIn bytes)) (inMetres bytes from)
+    lowest-metres =
+        failing-is whole bytes (listPart ms) from (wordBlocks (heldIn bytes)) (omega (arith, length-list ms, metres-count bytes long)) (RestKept bytes from (heldIn bytes))
+        (λ j h. subst (λ p. RestKept bytes from (heldIn bytes) j ↔ (whole p (payloadAt bytes (from + j)) ≡ true)) (sym (list-part ms j (omega (arith, metres-count bytes long))))
+        (metres-tested j h))
+
+    pub lowest-in-metres : (r : ℕ) → LowestWrong (RestKept bytes from (heldIn bytes)) from (wordBlocks (heldIn bytes)) r → r ≡ inMetres bytes from
+    lowest-in-metres r w = lowest-one (RestKept bytes from (heldIn bytes)) from (wordBlocks (heldIn bytes)) r (inMetres bytes from) w lowest-metres
 
 -- ---- where code 14 names no block, counts and unused payload are right
 
@@ -464,7 +526,12 @@ module _ (bytes : List ℕ) (are : AreBytes bytes) (h : Header bytes)
   none-S1 = zero-or (afterSamples bytes (readR1 bytes) (r1Samples nodes′)) (λ n. n (sym (kept-after-S1 bytes long ended1 none-R1 none-R0 n) ∙ kept))
 
   none-S0 : afterSamples bytes (readR0 bytes) (r1Samples nodes′ + blocksOfSamples (runsOf bytes)) ≡ 0
-  none-S0 = sym (kept-after-S0 bytes long ended1 none-R1 none-R0 none-S1) ∙ kept
+  none-S0 =
+      zero-or (afterSamples bytes (readR0 bytes) (r1Samples nodes′ + blocksOfSamples (runsOf bytes)))
+      (λ n. n (sym (kept-after-S0 bytes long ended1 none-R1 none-R0 none-S1 n) ∙ kept))
+
+  none-metres : inMetres bytes (metresBlock nodes′ (runsOf bytes)) ≡ 0
+  none-metres = sym (kept-after-metres bytes long ended1 none-R1 none-R0 none-S1 ended0 none-S0) ∙ kept
 
   pub kept-R1 : CountsAndPadding bytes 1 (readR1 bytes)
   kept-R1 =
@@ -478,15 +545,24 @@ module _ (bytes : List ℕ) (are : AreBytes bytes) (h : Header bytes)
       (lowest-none (BlockKept bytes (r0Block nodes′) (nodes′ + 1)) (r0Block nodes′) (stringBlocks (nodes′ + 1)) (inString bytes (readR0 bytes) (r0Block nodes′)) (omega arith) none-R0
       (lowest-string bytes are (r0Block nodes′) (nodes′ + 1) (omega (arith, h .most)) (omega (arith, h .needed))))
 
-  pub rest-S1 : (j : ℕ) → j < blocksOfSamples (runsOf bytes) → RestKept bytes (r1Samples nodes′) (runsOf bytes) j
+  pub rest-S1 : (j : ℕ) → j < blocksOfSamples (runsOf bytes) → RestKept bytes (r1Samples nodes′) (samplesOf (runsOf bytes)) j
   rest-S1 =
       let l = length-stringIn bytes 1 0 nodes′ in
-      lowest-none (RestKept bytes (r1Samples nodes′) (runsOf bytes)) (r1Samples nodes′) (blocksOfSamples (runsOf bytes)) (afterSamples bytes (readR1 bytes) (r1Samples nodes′)) (omega arith) none-S1
+      let k = samplesOf (runsOf bytes) in
+      lowest-none (RestKept bytes (r1Samples nodes′) k) (r1Samples nodes′) (wordBlocks k) (afterSamples bytes (readR1 bytes) (r1Samples nodes′)) (omega arith) none-S1
       (lowest-rest bytes are (r1Samples nodes′) (runsOf bytes) (readR1 bytes) (ended1 .count) (omega (arith, h .most)) (omega (arith, h .needed)))
 
-  pub rest-S0 : (j : ℕ) → j < blocksOfSamples (runsOf bytes) → RestKept bytes (r1Samples nodes′ + blocksOfSamples (runsOf bytes)) (runsOf bytes) j
+  pub rest-S0 : (j : ℕ) → j < blocksOfSamples (runsOf bytes) → RestKept bytes (r1Samples nodes′ + blocksOfSamples (runsOf bytes)) (samplesOf (runsOf bytes)) j
   rest-S0 =
       let from = r1Samples nodes′ + blocksOfSamples (runsOf bytes) in
       let l = length-stringIn bytes (r0Block nodes′) 0 (nodes′ + 1) in
-      lowest-none (RestKept bytes from (runsOf bytes)) from (blocksOfSamples (runsOf bytes)) (afterSamples bytes (readR0 bytes) from) (omega arith) none-S0
+      let k = samplesOf (runsOf bytes) in
+      lowest-none (RestKept bytes from k) from (wordBlocks k) (afterSamples bytes (readR0 bytes) from) (omega arith) none-S0
       (lowest-rest bytes are from (runsOf bytes) (readR0 bytes) (ended0 .count) (omega (arith, h .most)) (omega (arith, h .needed)))
+
+  pub rest-metres : MetresEnd bytes
+  rest-metres =
+      let from = metresBlock nodes′ (runsOf bytes) in
+      let k = heldIn bytes in
+      lowest-none (RestKept bytes from k) from (wordBlocks k) (inMetres bytes from) (omega arith) none-metres
+      (lowest-metres bytes are long (omega (arith, h .needed)))

@@ -1,4 +1,4 @@
--- The words of the payloads: of a string's blocks and of its samples' blocks.
+-- The words of the payloads: of a string's blocks and of the blocks of a list of numbers.
 use mathlib.Core.Path.{_≡_, refl, sym, ap, ap₂, _∙_}
 use mathlib.Core.List.{List, [], _∷_, _++_, map}
 use Prim.Native.Nat.{ℕ, zero, suc, _+_, _-_, _*_, _/_, _^_, _≤_, _<_}
@@ -10,7 +10,7 @@ use Rattle.meaning.specs.Bytes.{number, value, bytesOf}
 use Rattle.meaning.specs.Blocks.{le32, wordBytes, cut}
 use Rattle.meaning.specs.Image.{stringPayloads, sampled, samples}
 use Rattle.theory.specs.Rank.{position}
-use Rattle.theory.specs.Layout.{AreBytes, wordAt, bitWord, stringWord, sampleWord}
+use Rattle.theory.specs.Layout.{AreBytes, wordAt, bitWord, stringWord, listWord, sampleWord}
 use Rattle.theory.proofs.Odd.{ones-append}
 use Rattle.theory.proofs.Navigate.{position-zero}
 use Rattle.theory.proofs.Digits.{le32-first, le32-bytes, append-bytes, bytesOf-lt, wordAt-append, bytesOf-word, wordBytes-at}
@@ -71,17 +71,21 @@ pub sample-le : (bs : List Bit) (j : ℕ) → getD (samples bs) j 0 ≤ 1 + leng
 unfolding samples
 sample-le bs j = omega (arith, sampled-at (positions bs 1) 0 j, positions-le bs 1 (0 + 64 * j))
 
--- the payload of a block of samples
-pub sample-payload : (k : ℕ) (r : List Bit) (j : ℕ) → j < k → getD (map wordBytes (cut k 126 (samples r))) j [] ≡ wordBytes (take 126 (drop (126 * j) (samples r)))
+-- ---- lists of numbers
+
+-- the payload of a block of a list
+pub list-payload : (k : ℕ) (ws : List ℕ) (j : ℕ) → j < k → getD (map wordBytes (cut k 126 ws)) j [] ≡ wordBytes (take 126 (drop (126 * j) ws))
 unfolding wordBytes
-sample-payload k r j h = List·getD-map wordBytes (cut k 126 (samples r)) j [] ∙ ap wordBytes (cut-at k 126 (samples r) j h)
+list-payload k ws j h = List·getD-map wordBytes (cut k 126 ws) j [] ∙ ap wordBytes (cut-at k 126 ws j h)
+
+pub list-word : (ws : List ℕ) (j w : ℕ) → getD ws (126 * j + w) 0 < 2 ^ 32 → w < 126 → wordAt (wordBytes (take 126 (drop (126 * j) ws))) (4 * w) ≡ listWord ws j w
+list-word ws j w l h =
+    let e : getD (take 126 (drop (126 * j) ws)) w 0 ≡ getD ws (126 * j + w) 0 = getD-take 126 (drop (126 * j) ws) w 0 h ∙ getD-drop (126 * j) ws w 0 in
+    wordBytes-at (take 126 (drop (126 * j) ws)) w (omega arith) ∙ e
 
 pub sample-word : (r : List Bit) (j w : ℕ) → length r ≤ 65536 → w < 126 → wordAt (wordBytes (take 126 (drop (126 * j) (samples r)))) (4 * w) ≡ sampleWord r j w
 unfolding sampleWord
-sample-word r j w l h =
-    let ss = samples r in
-    let e : getD (take 126 (drop (126 * j) ss)) w 0 ≡ getD ss (126 * j + w) 0 = getD-take 126 (drop (126 * j) ss) w 0 h ∙ getD-drop (126 * j) ss w 0 in
-    wordBytes-at (take 126 (drop (126 * j) ss)) w (omega (arith, sample-le r (126 * j + w))) ∙ e
+sample-word r j w l h = list-word (samples r) j w (omega (arith, sample-le r (126 * j + w))) h
 
 -- ---- strings
 

@@ -11,7 +11,7 @@ use lib.ListN.{length, getD, take, drop, replicate, length-append, length-drop, 
 use lib.Seq.{getD-append-add, getD-take, drop-drop, take-take, take-at, drop-at, length-take-le}
 use Rattle.meaning.specs.Blocks.{wordBytes, words, sums, sumStart, padded, block, sealed, same, cut, blocksIn, wrongFrom, wrongBlock}
 use Rattle.theory.specs.Layout.{AreBytes, wordAt}
-use Rattle.theory.proofs.Digits.{length-wordBytes, append-bytes, take-bytes, drop-bytes, wordAt-take, wordAt-drop, same-words}
+use Rattle.theory.proofs.Digits.{length-wordBytes, words-bytes, append-bytes, take-bytes, drop-bytes, wordAt-take, wordAt-drop, same-words}
 
 -- ---- the comparison
 
@@ -112,6 +112,15 @@ module _ (start : ℕ → ℕ) where
       ap (λ k. getD (block (start b) (padded p) ++ sealed start ps (suc b)) k 0) (let e : 512 * suc j + r ≡ length (block (start b) (padded p)) + (512 * j + r) = omega (arith, sealed-length p b) in e)
       ∙ getD-append-add (block (start b) (padded p)) (sealed start ps (suc b)) (512 * j + r) 0
       ∙ sealed-at ps (suc b) j r (omega arith) g
+
+  -- they are bytes if the payloads are
+  pub sealed-bytes : (ps : List (List ℕ)) (b : ℕ) → ((j : ℕ) → j < length ps → AreBytes (getD ps j [])) → AreBytes (sealed start ps b)
+  unfolding sealed block
+  sealed-bytes [] b h = λ i g. absurd (omega arith)
+  sealed-bytes (p ∷ ps) b h =
+      append-bytes (block (start b) (padded p)) (sealed start ps (suc b))
+      (append-bytes (padded p) (wordBytes (sums (words (padded p)) (start b) 0)) (padded-bytes p (h 0 (omega arith))) (words-bytes (sums (words (padded p)) (start b) 0)))
+      (sealed-bytes ps (suc b) (λ j g. h (suc j) (omega arith)))
 
   -- payload word w of block j
   pub sealed-word : (ps : List (List ℕ)) (j w : ℕ) → j < length ps → w < 126 → wordAt (sealed start ps 0) (512 * j + 4 * w) ≡ wordAt (getD ps j []) (4 * w)

@@ -20,9 +20,9 @@ pub record BlockKept (bytes : List ℕ) (first n j : ℕ) : Type 0 where
   pub count : wordAt bytes (512 * (first + j)) ≡ ones (stringIn bytes first 0 (4000 * j))
   pub unused : (i : ℕ) → n ≤ i → 4000 * j ≤ i → i < 4000 * j + 4000 → bitAt bytes (bitPlace first i) ≡ O
 
--- block j of the samples of m ones, from block `from` on: zeros in the words after the last sample
+-- block j of a list of k numbers, from block `from` on: zeros in the words after the last number
 abbrev pub RestKept : List ℕ → ℕ → ℕ → ℕ → Type 0
-RestKept bytes from m j = (w : ℕ) → w < 126 → (m + 63) / 64 ≤ 126 * j + w → wordAt bytes (512 * (from + j) + 4 * w) ≡ 0
+RestKept bytes from k j = (w : ℕ) → w < 126 → k ≤ 126 * j + w → wordAt bytes (512 * (from + j) + 4 * w) ≡ 0
 
 -- block j of the samples of r: each word is its sample, and after the last sample zero
 abbrev pub BlockSampled : List ℕ → ℕ → List Bit → ℕ → Type 0

@@ -5,5 +5,5 @@ pub mod Rank
 pub mod ByStrings
 pub mod Walks
 pub mod Layout
-pub mod Stages
 pub mod Faults
+pub mod Stages

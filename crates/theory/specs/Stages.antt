@@ -8,8 +8,9 @@ use Rattle.meaning.specs.Strings.{Bit, O, I, ones}
 use Rattle.meaning.specs.Bytes.{bitAt}
 use Rattle.meaning.specs.Blocks.{blocksIn}
 use Rattle.meaning.specs.Image.{stringBlocks, stringIn}
-pub use Rattle.meaning.specs.Image.{blocksOfSamples, r0Block, r1Samples, blocksNeeded}
+pub use Rattle.meaning.specs.Image.{wordBlocks, samplesOf, blocksOfSamples, r0Block, r1Samples, metresBlock, metresHeld, blocksNeeded}
 use Rattle.theory.specs.Layout.{wordAt, bitPlace, sampleWord}
+use Rattle.theory.specs.Faults.{RestKept}
 
 -- n and m, as the header has them
 abbrev pub nodesOf : List ℕ → ℕ
@@ -25,9 +26,17 @@ readR1 bytes = stringIn bytes 1 0 (nodesOf bytes)
 abbrev pub readR0 : List ℕ → List Bit
 readR0 bytes = stringIn bytes (r0Block (nodesOf bytes)) 0 (nodesOf bytes + 1)
 
--- the version
-abbrev pub versionOf : List ℕ → ℕ
-versionOf bytes = wordAt bytes 0
+-- the version, and how many numbers of metres there are by it
+abbrev pub versionIn : List ℕ → ℕ
+versionIn bytes = wordAt bytes 0
+
+abbrev pub heldIn : List ℕ → ℕ
+heldIn bytes = metresHeld (versionIn bytes) (nodesOf bytes)
+
+-- the versions that there are
+pub record Known (v : ℕ) : Type 0 where
+  pub some : 1 ≤ v
+  pub most : v ≤ 2
 
 -- the header after the version: n, m and the number of blocks, taken together, and the reserved
 -- words
@@ -38,7 +47,7 @@ pub record Header (bytes : List ℕ) : Type 0 where
   pub runsMost : runsOf bytes ≤ nodesOf bytes
   pub runsTwo : 2 ≤ nodesOf bytes → 2 ≤ runsOf bytes
   pub blocks : wordAt bytes 12 ≡ blocksIn bytes
-  pub needed : blocksIn bytes ≡ blocksNeeded (nodesOf bytes) (runsOf bytes)
+  pub needed : blocksIn bytes ≡ blocksNeeded (versionIn bytes) (nodesOf bytes) (runsOf bytes)
   pub reserved : (w : ℕ) → 4 ≤ w → w < 126 → wordAt bytes (4 * w) ≡ 0
 
 -- a string of m runs: m ones, the last bit among them
@@ -62,9 +71,13 @@ pub record CountsAndPadding (bytes : List ℕ) (from : ℕ) (r : List Bit) : Typ
 abbrev pub Sampled : List ℕ → ℕ → ℕ → List Bit → Type 0
 Sampled bytes from m r = (j w : ℕ) → j < blocksOfSamples m → w < 126 → wordAt bytes (512 * (from + j) + 4 * w) ≡ sampleWord r j w
 
+-- zeros in the words behind the last number of metres
+abbrev pub MetresEnd : List ℕ → Type 0
+MetresEnd bytes = (j : ℕ) → j < wordBlocks (heldIn bytes) → RestKept bytes (metresBlock (nodesOf bytes) (runsOf bytes)) (heldIn bytes) j
+
 -- all stages pass
 pub record Stages (bytes : List ℕ) : Type 0 where
-  pub version : versionOf bytes ≡ 1
+  pub version : Known (versionIn bytes)
   pub header : Header bytes
   pub ended1 : Ended (runsOf bytes) (readR1 bytes)
   pub ended0 : Ended (runsOf bytes) (readR0 bytes)
@@ -73,3 +86,4 @@ pub record Stages (bytes : List ℕ) : Type 0 where
   pub kept0 : CountsAndPadding bytes (r0Block (nodesOf bytes)) (readR0 bytes)
   pub sampled1 : Sampled bytes (r1Samples (nodesOf bytes)) (runsOf bytes) (readR1 bytes)
   pub sampled0 : Sampled bytes (r1Samples (nodesOf bytes) + blocksOfSamples (runsOf bytes)) (runsOf bytes) (readR0 bytes)
+  pub metresEnd : MetresEnd bytes

@@ -31,7 +31,7 @@ pub fn demand_three(comparison: &mut Comparison, random: &mut Random) -> Result<
 fn no_string_begins_another(comparison: &mut Comparison) -> Result<(), Enough> {
     let mut strings: Vec<Vec<bool>> = Vec::new();
     for parents in (1..=7).flat_map(all_trees) {
-        let forms = Forms::of(parents.clone());
+        let forms = Forms::of(parents.clone(), None);
         let made = Call::StringOfParents { parents, bytes: vec![0; forms.bytes.len()] };
         let compared = comparison.compare(made)?;
         let string = string_left(&compared);
@@ -66,7 +66,7 @@ fn split_call(random: &mut Random, bits: &[bool], trees: usize) -> Call {
 }
 
 fn end_to_end(trees: &[Vec<u32>]) -> Vec<bool> {
-    trees.iter().flat_map(|parents| Forms::of(parents.clone()).string).collect()
+    trees.iter().flat_map(|parents| Forms::of(parents.clone(), None).string).collect()
 }
 
 /// "Our splitter gives each tree's start and size, and reading those parts gives the list back."

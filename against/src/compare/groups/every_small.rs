@@ -1,6 +1,6 @@
 //! Everything that is small enough to be tried in full.
 
-use super::forms::{arguments, takes_argument, Forms, KINDS};
+use super::forms::{arguments, drawn_metres, kinds, offered_metres, takes_argument, Forms};
 use super::image_damage::sealed_image_of;
 use crate::compare::call::Call;
 use crate::compare::comparison::{Comparison, Enough};
@@ -22,8 +22,10 @@ pub fn parent_lists(comparison: &mut Comparison, random: &mut Random) -> Result<
             let parents: Vec<u32> = (0..length).map(|place| number(value / base.pow(number(place)) % base)).collect();
             let bytes = random.bytes(2);
             comparison.compare(Call::StringOfParents { parents: parents.clone(), bytes })?;
-            let image = random.bytes(5 * 512);
-            comparison.compare(Call::ImageOfParents { parents: parents.clone(), image })?;
+            let image = random.bytes(6 * 512);
+            comparison.compare(Call::ImageOfParents { parents: parents.clone(), image: image.clone() })?;
+            let metres = offered_metres(random, length);
+            comparison.compare(Call::ImageWithMetres { parents: parents.clone(), metres, image })?;
             let pack = [&[0b1000_0000], random.bytes(3).as_slice()].concat();
             comparison.compare(Call::Join { pack, bits: 3, trees: 1, parents })?;
         }
@@ -67,13 +69,14 @@ fn read_both_ways(
     Ok(())
 }
 
-/// All trees of up to 7 nodes, all calls: there and back, all questions, listings from every node.
+/// All trees of up to 7 nodes in both versions, all calls: there and back, all questions, listings from every node.
 pub fn trees(comparison: &mut Comparison, random: &mut Random) -> Result<(), Enough> {
     for parents in (1..=7).flat_map(all_trees) {
-        let forms = Forms::of(parents);
-        there_and_back(comparison, random, &forms)?;
-        every_question(comparison, random, &forms)?;
-        every_listing(comparison, random, &forms)?;
+        for forms in Forms::of_both_versions(random, &parents) {
+            there_and_back(comparison, random, &forms)?;
+            every_question(comparison, random, &forms)?;
+            every_listing(comparison, random, &forms)?;
+        }
     }
     Ok(())
 }
@@ -87,7 +90,8 @@ fn there_and_back(comparison: &mut Comparison, random: &mut Random, forms: &Form
         let bytes = forms.bytes.clone();
         comparison.compare(Call::ParentsOfString { bytes, bits, parents: output.clone() })?;
         let image = forms.image.clone();
-        comparison.compare(Call::ParentsOfImage { image, parents: output })?;
+        comparison.compare(Call::ParentsOfImage { image: image.clone(), parents: output.clone() })?;
+        comparison.compare(Call::MetresOfImage { image, metres: output })?;
     }
     let needed = forms.bytes.len();
     for room in [needed - 1, needed, needed + 1] {
@@ -101,7 +105,7 @@ fn there_and_back(comparison: &mut Comparison, random: &mut Random, forms: &Form
     let needed = forms.image.len();
     for room in [needed - 1, needed, needed + 1] {
         let image = random.bytes(room);
-        comparison.compare(Call::ImageOfParents { parents: parents(), image })?;
+        comparison.compare(forms.sealing(image))?;
     }
     for (starts_room, sizes_room) in [(0, 1), (1, 0), (1, 1), (2, 2)] {
         let (starts, sizes) = (random.words(starts_room), random.words(sizes_room));
@@ -116,8 +120,9 @@ fn there_and_back(comparison: &mut Comparison, random: &mut Random, forms: &Form
 /// good ones.
 fn every_question(comparison: &mut Comparison, random: &mut Random, forms: &Forms) -> Result<(), Enough> {
     let n = forms.node_count() as i32;
+    let kinds = kinds(forms.metres.is_some());
     let mut allowed = Vec::new();
-    for kind in KINDS {
+    for kind in kinds.clone() {
         for node in 1..=n {
             for argument in arguments(forms.node_count()) {
                 if argument == 0 || takes_argument(kind) {
@@ -129,10 +134,11 @@ fn every_question(comparison: &mut Comparison, random: &mut Random, forms: &Form
     for questions in allowed.chunks(256) {
         ask(comparison, random, forms, questions.concat())?;
     }
-    let odd_kinds = [0, -1, 11, i32::MIN, i32::MAX].map(|kind| [kind, 1, 0]);
-    let odd_nodes = [0, -1, n + 1, i32::MIN, i32::MAX].map(|node| [6, node, 0]);
+    let odd_kinds = [0, -1, kinds.end() + 1, i32::MIN, i32::MAX].map(|kind| [kind, 1, 0]);
+    let odd_nodes = [0, -1, n + 1, i32::MIN, i32::MAX].map(|node| [random.pick(&[6, *kinds.end()]), node, 0]);
+    let without_argument: Vec<i32> = kinds.filter(|&kind| !takes_argument(kind)).collect();
     let odd_arguments = [1, -1, n, i32::MIN, i32::MAX];
-    let odd_arguments = odd_arguments.map(|argument| [random.pick(&[1, 2, 3, 4, 5, 6, 7, 9]), 1, argument]);
+    let odd_arguments = odd_arguments.map(|argument| [random.pick(&without_argument), 1, argument]);
     for odd in [odd_kinds, odd_nodes, odd_arguments].concat() {
         let good = random.below(4);
         let before = allowed[..good.min(allowed.len())].concat();
@@ -164,13 +170,17 @@ fn every_listing(comparison: &mut Comparison, random: &mut Random, forms: &Forms
     Ok(())
 }
 
-/// All pairs of strings that could be R1 and R0 of up to 6 nodes, with header, counts, samples and sums that fit them.
-pub fn partitioned_strings(comparison: &mut Comparison, _: &mut Random) -> Result<(), Enough> {
+/// All pairs of strings that could be R1 and R0 of up to 6 nodes, with header, counts, samples and sums that fit them,
+/// without metres and with them.
+pub fn partitioned_strings(comparison: &mut Comparison, random: &mut Random) -> Result<(), Enough> {
     for n in 1..=6 {
         for r1 in 0..1 << n {
             for r0 in 0..1 << (n + 1) {
-                let image = sealed_image_of(&bits_of(r1, n), &bits_of(r0, n + 1));
-                comparison.compare(Call::CheckImage { image })?;
+                let metres = drawn_metres(random, n);
+                for metres in [None, Some(metres.as_slice())] {
+                    let image = sealed_image_of(&bits_of(r1, n), &bits_of(r0, n + 1), metres);
+                    comparison.compare(Call::CheckImage { image })?;
+                }
             }
         }
     }

@@ -2,18 +2,20 @@
 
 use crate::compare::call::Call;
 use crate::compare::comparison::{Comparison, Enough};
+use crate::compare::layout::Layout;
 use crate::compare::random::Random;
-use crate::compare::shapes::{parent_list, SHAPES};
+use crate::compare::shapes::{parent_list, Shape, SHAPES};
 use crate::model::answers::number;
 use crate::model::bits::bytes_of_bits;
-use crate::model::images::image_of_tree;
+use crate::model::images::{image_of_tree, m_of, WITH_METRES};
 use crate::model::listing::listing_from;
 use crate::model::strings::string_of_tree;
 use crate::model::trees::Tree;
 
-/// One tree as parent list, string, bytes of the string, and image.
+/// One tree as parent list, string, bytes of the string, and image: with metres it is of version 2, else of version 1.
 pub struct Forms {
     pub parents: Vec<u32>,
+    pub metres: Option<Vec<u32>>,
     pub tree: Tree,
     pub string: Vec<bool>,
     pub bytes: Vec<u8>,
@@ -21,21 +23,48 @@ pub struct Forms {
 }
 
 impl Forms {
-    pub fn of(parents: Vec<u32>) -> Forms {
+    pub fn of(parents: Vec<u32>, metres: Option<Vec<u32>>) -> Forms {
         let tree = Tree::of_parent_list(&parents).expect("made as a tree");
         let string = string_of_tree(&tree);
         let bytes = bytes_of_bits(&string);
-        let image = image_of_tree(&tree);
-        Forms { parents, tree, string, bytes, image }
+        let image = image_of_tree(&tree, metres.as_deref());
+        Forms { parents, metres, tree, string, bytes, image }
     }
 
-    /// A tree of `n` nodes and any shape.
+    /// A tree in both versions.
+    pub fn of_both_versions(random: &mut Random, parents: &[u32]) -> [Forms; 2] {
+        let metres = drawn_metres(random, parents.len());
+        [None, Some(metres)].map(|metres| Forms::of(parents.to_vec(), metres))
+    }
+
+    /// A tree of `n` nodes and this shape, in either version.
+    pub fn of_shape(random: &mut Random, shape: Shape, n: usize) -> Forms {
+        let parents = parent_list(shape, n, random);
+        let metres = random.one_in(2).then(|| drawn_metres(random, n));
+        Forms::of(parents, metres)
+    }
+
+    /// A tree of `n` nodes and any shape, in either version.
     pub fn drawn(random: &mut Random, n: usize) -> Forms {
-        Forms::of(tree_of_size(random, n))
+        let shape = random.pick(&SHAPES);
+        Forms::of_shape(random, shape, n)
     }
 
     pub fn node_count(&self) -> usize {
         self.parents.len()
+    }
+
+    pub fn layout(&self) -> Layout {
+        Layout::of(self.node_count(), m_of(&self.tree), self.metres.is_some())
+    }
+
+    /// The call that makes the image of its version.
+    pub fn sealing(&self, image: Vec<u8>) -> Call {
+        let parents = self.parents.clone();
+        match self.metres.clone() {
+            None => Call::ImageOfParents { parents, image },
+            Some(metres) => Call::ImageWithMetres { parents, metres, image },
+        }
     }
 
     /// How many numbers a listing takes; where it is too deep, as many as all nodes would.
@@ -51,6 +80,29 @@ pub fn tree_of_size(random: &mut Random, n: usize) -> Vec<u32> {
     parent_list(shape, n, random)
 }
 
+/// Metres for so many nodes, seldom all alike; the least and the greatest are frequent.
+pub fn drawn_metres(random: &mut Random, count: usize) -> Vec<u32> {
+    match random.below(8) {
+        0 => vec![0; count],
+        1 => vec![u32::MAX; count],
+        _ => {
+            let mut drawn = || match random.below(6) {
+                0 => 0,
+                1 => 1,
+                2 => u32::MAX,
+                _ => random.word(),
+            };
+            (0..count).map(|_| drawn()).collect()
+        }
+    }
+}
+
+/// A list of metres for a tree of `n` nodes: mostly of n numbers, else of fewer or more.
+pub fn offered_metres(random: &mut Random, n: usize) -> Vec<u32> {
+    let count = room_near(random, n);
+    drawn_metres(random, count)
+}
+
 /// Mostly a few nodes; sometimes around 64 ones or 126 words, or a few hundred.
 pub fn small_size(random: &mut Random) -> usize {
     match random.below(10) {
@@ -61,7 +113,7 @@ pub fn small_size(random: &mut Random) -> usize {
     }
 }
 
-/// A room for an output that needs so much: often just that, or one short, or more, or much less.
+/// A length for a list that needs so much: often just that, or one short, or more, or much less.
 pub fn room_near(random: &mut Random, needed: usize) -> usize {
     match random.below(10) {
         0 => needed.saturating_sub(1),
@@ -72,7 +124,10 @@ pub fn room_near(random: &mut Random, needed: usize) -> usize {
     }
 }
 
-pub const KINDS: std::ops::RangeInclusive<i32> = 1..=10;
+/// The kinds of questions that an image allows, without metres and with them.
+pub fn kinds(measured: bool) -> std::ops::RangeInclusive<i32> {
+    1..=if measured { 11 } else { 10 }
+}
 
 /// Whether every argument is allowed with this kind.
 pub fn takes_argument(kind: i32) -> bool {
@@ -85,9 +140,9 @@ pub fn arguments(n: usize) -> [i32; 12] {
     [0, 1, -1, 2, -2, n, -n, n - 1, n + 1, 65_536, i32::MIN, i32::MAX]
 }
 
-/// A question that a tree of n nodes allows.
-pub fn allowed_question(random: &mut Random, n: usize) -> [i32; 3] {
-    let kind = random.between(1, 10) as i32;
+/// A question that an image of n nodes allows, without metres or with them.
+pub fn allowed_question(random: &mut Random, n: usize, measured: bool) -> [i32; 3] {
+    let kind = random.between(1, *kinds(measured).end() as usize) as i32;
     let argument = match takes_argument(kind) {
         false => 0,
         true if random.one_in(2) => random.pick(&arguments(n)),
@@ -96,13 +151,13 @@ pub fn allowed_question(random: &mut Random, n: usize) -> [i32; 3] {
     [kind, random.between(1, n) as i32, argument]
 }
 
-/// `count` questions that a tree of n nodes allows.
-pub fn allowed_questions(random: &mut Random, n: usize, count: usize) -> Vec<i32> {
-    (0..count).flat_map(|_| allowed_question(random, n)).collect()
+/// `count` questions that an image of n nodes allows, without metres or with them.
+pub fn allowed_questions(random: &mut Random, n: usize, measured: bool, count: usize) -> Vec<i32> {
+    (0..count).flat_map(|_| allowed_question(random, n, measured)).collect()
 }
 
-/// All nine calls on one tree, with rooms that mostly do.
-pub fn nine_calls(comparison: &mut Comparison, random: &mut Random, forms: &Forms) -> Result<(), Enough> {
+/// Every call on one tree, of those that make an image the one for its version, with rooms that mostly do.
+pub fn every_call(comparison: &mut Comparison, random: &mut Random, forms: &Forms) -> Result<(), Enough> {
     let (n, bits) = (forms.node_count(), forms.string.len());
     let room = room_near(random, forms.bytes.len());
     let bytes = random.bytes(room);
@@ -114,7 +169,7 @@ pub fn nine_calls(comparison: &mut Comparison, random: &mut Random, forms: &Form
 
     let room = room_near(random, forms.image.len());
     let image = random.bytes(room);
-    comparison.compare(Call::ImageOfParents { parents: forms.parents.clone(), image })?;
+    comparison.compare(forms.sealing(image))?;
 
     let (rooms, trees) = ([room_near(random, 1), room_near(random, 1)], 1);
     let [starts, sizes] = rooms.map(|room| random.words(room));
@@ -132,10 +187,13 @@ pub fn nine_calls(comparison: &mut Comparison, random: &mut Random, forms: &Form
     Ok(())
 }
 
-/// All four calls that read an image, on bytes that may be anything but began as the image of n nodes.
+/// How many calls make the check first.
+const READINGS: usize = 4;
+
+/// All five calls that read an image, on bytes that may be anything but began as the image of n nodes.
 pub fn readings(comparison: &mut Comparison, random: &mut Random, image: &[u8], n: usize) -> Result<(), Enough> {
     comparison.compare(Call::CheckImage { image: image.to_vec() })?;
-    for which in 0..3 {
+    for which in 0..READINGS {
         comparison.compare(reading(random, image, n, which))?;
     }
     Ok(())
@@ -149,7 +207,7 @@ pub fn check_and_one_reading(
     n: usize,
 ) -> Result<(), Enough> {
     comparison.compare(Call::CheckImage { image: image.to_vec() })?;
-    let which = random.below(3);
+    let which = random.below(READINGS);
     comparison.compare(reading(random, image, n, which))?;
     Ok(())
 }
@@ -162,9 +220,15 @@ fn reading(random: &mut Random, image: &[u8], n: usize, which: usize) -> Call {
             Call::ParentsOfImage { image, parents: random.words(room) }
         }
         1 => {
+            let room = room_near(random, n);
+            Call::MetresOfImage { image, metres: random.words(room) }
+        }
+        2 => {
             let count = random.between(0, 12);
             let room = room_near(random, count);
-            let questions = allowed_questions(random, n, count);
+            // by the version; now and then metres are asked for that are not there
+            let measured = image.starts_with(&WITH_METRES.to_le_bytes()) || random.one_in(12);
+            let questions = allowed_questions(random, n, measured, count);
             Call::Ask { image, questions, answers: random.words(room) }
         }
         _ => {

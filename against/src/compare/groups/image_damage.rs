@@ -2,7 +2,7 @@
 
 use super::forms::{check_and_one_reading, readings, small_size, Forms};
 use crate::compare::comparison::{Comparison, Enough};
-use crate::compare::layout::{place_of_bit, word_at, Layout};
+use crate::compare::layout::{place_of_bit, with_words, word_at, Layout};
 use crate::compare::random::Random;
 use crate::compare::shapes::{parent_list, Shape};
 use crate::model::answers::number;
@@ -59,17 +59,19 @@ fn either_string(random: &mut Random, layout: &Layout) -> (usize, usize, usize) 
     (blocks.start, blocks.len(), bits)
 }
 
-/// The first block of either list of samples, and how many it has.
-fn either_samples(random: &mut Random, layout: &Layout) -> (usize, usize) {
-    let blocks = if random.one_in(2) { &layout.r1_samples } else { &layout.r0_samples };
-    (blocks.start, blocks.len())
+/// The first block of one of the lists, how many blocks it has, and how many words.
+fn one_list(random: &mut Random, layout: &Layout) -> (usize, usize, usize) {
+    let lists = layout.lists();
+    // in version 1 there are no metres, which come last
+    let (blocks, words) = lists[random.below(if layout.metres.is_empty() { 2 } else { 3 })];
+    (blocks.start, blocks.len(), words)
 }
 
 /// Another value for a word: next to it, or one that a limit is made of, or any.
 fn change_word(random: &mut Random, word: &mut [u8; 4]) {
     let value = u32::from_le_bytes(*word);
     let near = [value.wrapping_add(1), value.wrapping_sub(1), value ^ 1 << random.below(32)];
-    let known = [0, 1, 2, 5, 53, 54, 65_535, 65_536, 65_537, 1 << 31, u32::MAX, random.word()];
+    let known = [0, 1, 2, 3, 5, 6, 53, 54, 574, 575, 65_535, 65_536, 65_537, 1 << 31, u32::MAX, random.word()];
     let changed = if random.one_in(2) { random.pick(&near) } else { random.pick(&known) };
     *word = changed.to_le_bytes();
 }
@@ -78,7 +80,7 @@ fn change_word(random: &mut Random, word: &mut [u8; 4]) {
 fn edit(random: &mut Random, image: &mut [u8], layout: &Layout) {
     match random.below(9) {
         0 => {
-            let word = random.pick(&[0, 1, 1, 2, 2, 3, 3, 4, 5, 64, 125]);
+            let word = random.pick(&[0, 0, 1, 1, 2, 2, 3, 3, 4, 5, 64, 125]);
             change_word(random, word_at(image, 0, word));
         }
         1 => {
@@ -88,16 +90,16 @@ fn edit(random: &mut Random, image: &mut [u8], layout: &Layout) {
             change_word(random, word_at(image, block, 0));
         }
         2 => {
-            // a sample: the first, the last, or any
-            let (first, _) = either_samples(random, layout);
-            let any = random.below(layout.samples);
-            let sample = random.pick(&[0, layout.samples - 1, any]);
-            change_word(random, word_at(image, first, sample));
+            // a sample, or the metres of a node: the first, the last, or any
+            let (first, _, words) = one_list(random, layout);
+            let any = random.below(words);
+            let word = random.pick(&[0, words - 1, any]);
+            change_word(random, word_at(image, first, word));
         }
         3 => {
-            // two samples exchanged, or one said twice
-            let (first, _) = either_samples(random, layout);
-            let [one, other] = [0, 1].map(|_| random.below(layout.samples));
+            // two of them exchanged, or one said twice
+            let (first, _, words) = one_list(random, layout);
+            let [one, other] = [0, 1].map(|_| random.below(words));
             let value = *word_at(image, first, one);
             let replaced = std::mem::replace(word_at(image, first, other), value);
             if random.one_in(2) {
@@ -115,11 +117,11 @@ fn edit(random: &mut Random, image: &mut [u8], layout: &Layout) {
             }
         }
         5 => {
-            // unused words after the samples: the first of them, or any
-            let (first, blocks) = either_samples(random, layout);
-            let unused = blocks * PAYLOAD_WORDS - layout.samples;
+            // unused words after the samples or the metres: the first of them, or any
+            let (first, blocks, words) = one_list(random, layout);
+            let unused = blocks * PAYLOAD_WORDS - words;
             if unused > 0 {
-                let word = layout.samples + if random.one_in(2) { 0 } else { random.below(unused) };
+                let word = words + if random.one_in(2) { 0 } else { random.below(unused) };
                 change_word(random, word_at(image, first, word));
             }
         }
@@ -148,11 +150,11 @@ fn edit(random: &mut Random, image: &mut [u8], layout: &Layout) {
     }
 }
 
-/// Header words, counts, samples, padding and bits edited, once or twice, and the sums made right again.
+/// Header words, counts, samples, metres, padding and bits edited, once or twice, and the sums made right again.
 pub fn edits_with_right_sums(comparison: &mut Comparison, random: &mut Random) -> Result<(), Enough> {
     for _ in 0..4_000 {
         let forms = tree_to_damage(random);
-        let layout = Layout::of(forms.node_count(), ones_in(&partition(&forms.string).0));
+        let layout = forms.layout();
         for _ in 0..damages_of(&forms, 8) {
             let mut image = forms.image.clone();
             for _ in 0..random.pick(&[1, 1, 1, 2]) {
@@ -166,14 +168,17 @@ pub fn edits_with_right_sums(comparison: &mut Comparison, random: &mut Random) -
 }
 
 /// The image that two strings would have, of at least five blocks even where there are no samples.
-pub fn sealed_image_of(r1: &[bool], r0: &[bool]) -> Vec<u8> {
-    let mut image = image_of_strings(r1, r0);
-    if image.len() < 5 * BLOCK_BYTES {
-        image.resize(5 * BLOCK_BYTES, 0);
-        *word_at(&mut image, 0, 3) = 5u32.to_le_bytes();
-        seal(&mut image);
-    }
-    image
+pub fn sealed_image_of(r1: &[bool], r0: &[bool], metres: Option<&[u32]>) -> Vec<u8> {
+    let image = image_of_strings(r1, r0, metres);
+    let blocks = image.len() / BLOCK_BYTES;
+    lengthened(&image, blocks.max(5))
+}
+
+/// The image cut off after so many blocks or with zeros up to there, with this number in its header and right sums.
+fn lengthened(image: &[u8], blocks: usize) -> Vec<u8> {
+    let mut image = image.to_vec();
+    image.resize(blocks * BLOCK_BYTES, 0);
+    with_words(&image, &[(0, 3, number(blocks))])
 }
 
 /// Strings of no tree with header, counts, samples and sums computed from them as if they were of one.
@@ -181,18 +186,22 @@ pub fn images_of_no_tree(comparison: &mut Comparison, random: &mut Random) -> Re
     for _ in 0..8_000 {
         let forms = tree_to_damage(random);
         let (r1, r0) = strings_of_no_tree(random, &forms);
-        let image = sealed_image_of(&r1, &r0);
+        let image = sealed_image_of(&r1, &r0, forms.metres.as_deref());
         readings(comparison, random, &image, forms.node_count())?;
     }
     // no node at all
     for r0 in [[true], [false]] {
-        readings(comparison, random, &sealed_image_of(&[], &r0), 1)?;
+        for metres in [None, Some([].as_slice())] {
+            readings(comparison, random, &sealed_image_of(&[], &r0, metres), 1)?;
+        }
     }
-    // right in all but that there are too many nodes; 53 blocks would hold them
+    // right in all but that there are too many nodes; 574 blocks would hold most of them
     for n in [65_536, 65_537, 67_999, 68_000, 68_001] {
         for shape in [Shape::Star, Shape::LongRuns] {
-            let forms = Forms::of(parent_list(shape, n, random));
-            readings(comparison, random, &forms.image, n)?;
+            let parents = parent_list(shape, n, random);
+            for forms in Forms::of_both_versions(random, &parents) {
+                readings(comparison, random, &forms.image, n)?;
+            }
         }
     }
     Ok(())
@@ -288,7 +297,7 @@ pub fn moved_blocks(comparison: &mut Comparison, random: &mut Random) -> Result<
             check_and_one_reading(comparison, random, &image, forms.node_count())?;
         }
     }
-    for blocks in [0, 1, 4, 5, 6, MOST_BLOCKS, MOST_BLOCKS + 1, 100] {
+    for blocks in [0, 1, 4, 5, 6, 53, 54, 96, 97, MOST_BLOCKS - 1, MOST_BLOCKS, MOST_BLOCKS + 1] {
         for more in [-1, 0, 1, 256] {
             let length = (blocks * BLOCK_BYTES).saturating_add_signed(more);
             for filled in [vec![0; length], random.bytes(length)] {
@@ -306,7 +315,7 @@ fn move_blocks(random: &mut Random, image: &[u8]) -> Vec<u8> {
     let mut blocks: Vec<Vec<u8>> = image.chunks(BLOCK_BYTES).map(<[u8]>::to_vec).collect();
     let one = random.below(blocks.len());
     let other = random.below(blocks.len());
-    match random.below(7) {
+    match random.below(8) {
         0 => blocks.swap(one, other),
         1 => {
             blocks.remove(one);
@@ -315,6 +324,11 @@ fn move_blocks(random: &mut Random, image: &[u8]) -> Vec<u8> {
         3 => blocks.insert(one, vec![0; BLOCK_BYTES]),
         4 => blocks.push(vec![0; BLOCK_BYTES]),
         5 => {
+            // more than a tree's image without metres can have, and more than any
+            let more = random.pick(&[54, 96, 97, 573, 574, 575, 576]);
+            return lengthened(image, more);
+        }
+        6 => {
             let length = random.below(image.len() + 1);
             return image[..length].to_vec();
         }

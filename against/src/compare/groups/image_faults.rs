@@ -3,13 +3,15 @@
 
 use super::forms::{check_and_one_reading, readings, Forms};
 use crate::compare::comparison::{Comparison, Enough};
-use crate::compare::layout::{place_of_bit, with_words, word_at, Layout};
+use crate::compare::layout::{place_of_bit, place_of_word, with_words, Layout};
 use crate::compare::random::Random;
 use crate::compare::shapes::{all_trees, parent_list, Shape};
 use crate::compare::twelve_cases::T;
 use crate::model::answers::number;
-use crate::model::images::{image_of_tree, m_of, seal, BITS_IN_BLOCK, BLOCK_BYTES, PAYLOAD_WORDS};
-use crate::model::trees::Tree;
+use crate::model::images::{
+    image_of_tree, seal, BITS_IN_BLOCK, BLOCK_BYTES, MOST_BLOCKS, PAYLOAD_WORDS, WITHOUT_METRES, WITH_METRES,
+};
+use crate::model::trees::{Tree, MOST_NODES};
 use std::collections::BTreeSet;
 use std::ops::Range;
 
@@ -29,23 +31,22 @@ struct Undamaged<'a> {
 }
 
 impl Undamaged<'_> {
-    /// What a change does to the image.
-    fn by(&self, change: impl FnOnce(&mut [u8])) -> Fault {
-        let mut changed = self.image.to_vec();
-        change(&mut changed);
-        let pairs = self.image.iter().zip(&changed).enumerate();
+    /// Other bytes from this one on.
+    fn bytes(&self, first: usize, bytes: &[u8]) -> Fault {
+        let pairs = (first..).zip(self.image[first..].iter().zip(bytes));
         pairs.filter(|(_, (old, new))| old != new).map(|(byte, (old, new))| (byte, old ^ new)).collect()
     }
 
     /// A word with each of these values in its place.
     fn word(&self, first_block: usize, index: usize, values: &[u32]) -> Vec<Fault> {
-        let of_value = |value: &u32| self.by(|image| *word_at(image, first_block, index) = value.to_le_bytes());
+        let of_value = |value: &u32| self.bytes(place_of_word(first_block, index), &value.to_le_bytes());
         values.iter().map(of_value).collect()
     }
 
     /// A word that is one more, one less, or zero.
     fn near(&self, block: usize, index: usize) -> Vec<Fault> {
-        let value = u32::from_le_bytes(*word_at(&mut self.image.to_vec(), block, index));
+        let word = self.image[place_of_word(block, index)..].first_chunk().expect("four bytes");
+        let value = u32::from_le_bytes(*word);
         self.word(block, index, &[value.wrapping_add(1), value.wrapping_sub(1), 0])
     }
 
@@ -55,23 +56,24 @@ impl Undamaged<'_> {
 
     /// The bits of both strings are those of another tree of as many nodes, and nothing else changes.
     fn strings_of(&self, other: &Tree) -> Fault {
-        let theirs = image_of_tree(other);
+        let theirs = image_of_tree(other, None);
         let bits_of = |first_block: usize, bits: usize| (0..bits).map(move |index| place_of_bit(first_block, index));
         let Layout { r1, r0, n, .. } = &self.layout;
-        self.by(|image| {
-            for (byte, mask) in bits_of(r1.start, *n).chain(bits_of(r0.start, n + 1)) {
-                image[byte] = image[byte] & !mask | theirs[byte] & mask;
-            }
-        })
+        let mut changed = self.image.to_vec();
+        for (byte, mask) in bits_of(r1.start, *n).chain(bits_of(r0.start, n + 1)) {
+            changed[byte] = changed[byte] & !mask | theirs[byte] & mask;
+        }
+        self.bytes(0, &changed)
     }
 
     /// The header: version, n, m, number of blocks, reserved words.
     fn header(&self) -> Vec<Vec<Fault>> {
-        let other_order = 1u32.swap_bytes();
+        let versions = [0, WITHOUT_METRES, WITH_METRES, 3];
+        let other_order = [WITHOUT_METRES, WITH_METRES].map(u32::swap_bytes);
         let more_than_nodes = number(self.layout.n) + 1;
         let reserved = [4, 5, 64, PAYLOAD_WORDS - 1].map(|index| self.word(0, index, &[1, 1 << 31]));
         vec![
-            self.word(0, 0, &[0, 2, 3, other_order, u32::MAX]),
+            self.word(0, 0, &[versions.as_slice(), &other_order, &[u32::MAX]].concat()),
             [self.near(0, 1), self.word(0, 1, &[65_536, u32::MAX])].concat(),
             [self.near(0, 2), self.word(0, 2, &[1, more_than_nodes])].concat(),
             [self.near(0, 3), self.word(0, 3, &[u32::MAX])].concat(),
@@ -105,17 +107,16 @@ impl Undamaged<'_> {
         places
     }
 
-    /// The samples of each block, and words after the last one.
-    fn samples(&self) -> Vec<Vec<Fault>> {
-        let Layout { r1_samples, r0_samples, samples, .. } = &self.layout;
+    /// The samples of each block, and words after the last one; the same for the metres, of which none is a fault.
+    fn lists(&self) -> Vec<Vec<Fault>> {
         let mut places = Vec::new();
-        for blocks in [r1_samples, r0_samples] {
-            for (block, before) in blocks.clone().zip((0..*samples).step_by(PAYLOAD_WORDS)) {
-                let in_block = (samples - before).min(PAYLOAD_WORDS);
+        for (blocks, words) in self.layout.lists() {
+            for (block, before) in blocks.clone().zip((0..words).step_by(PAYLOAD_WORDS)) {
+                let in_block = (words - before).min(PAYLOAD_WORDS);
                 places.push([0, in_block / 2, in_block - 1].map(|index| self.near(block, index)).concat());
             }
             let all = blocks.len() * PAYLOAD_WORDS;
-            let unused = [*samples, samples + 1, all - 1].into_iter().filter(|&index| index < all);
+            let unused = [words, words + 1, all.saturating_sub(1)].into_iter().filter(|&index| index < all);
             places.push(unused.flat_map(|index| self.word(blocks.start, index, &[1, 1 << 31])).collect());
         }
         places
@@ -124,9 +125,9 @@ impl Undamaged<'_> {
 
 /// The faults that a tree's image can have, a list for each place that some can be in.
 fn faults(random: &mut Random, forms: &Forms) -> Vec<Vec<Fault>> {
-    let undamaged = Undamaged { image: &forms.image, layout: Layout::of(forms.node_count(), m_of(&forms.tree)) };
+    let undamaged = Undamaged { image: &forms.image, layout: forms.layout() };
     let places =
-        [undamaged.header(), undamaged.strings(random), undamaged.counts(), undamaged.samples()].into_iter().flatten();
+        [undamaged.header(), undamaged.strings(random), undamaged.counts(), undamaged.lists()].into_iter().flatten();
     let places = places.map(|mut place| {
         // a word may have had the value that it was to get
         place.retain(|fault| !fault.is_empty());
@@ -137,7 +138,7 @@ fn faults(random: &mut Random, forms: &Forms) -> Vec<Vec<Fault>> {
     places.filter(|place| !place.is_empty()).collect()
 }
 
-/// T, and other trees of a few blocks.
+/// T and other trees of a few blocks, in both versions.
 fn small_trees(random: &mut Random) -> Vec<Forms> {
     let others = [
         (Shape::Path, 1),
@@ -149,10 +150,11 @@ fn small_trees(random: &mut Random) -> Vec<Forms> {
         (Shape::Even, 400),
     ];
     let others = others.map(|(shape, n)| parent_list(shape, n, random));
-    [T.to_vec()].into_iter().chain(others).map(Forms::of).collect()
+    let trees = [T.to_vec()].into_iter().chain(others);
+    trees.flat_map(|parents| Forms::of_both_versions(random, &parents)).collect()
 }
 
-/// Trees whose strings or samples end with a block, or go on in another one.
+/// Trees whose strings, samples or metres end with a block, or go on in another one, in both versions.
 fn large_trees(random: &mut Random) -> Vec<Forms> {
     let trees = [
         (Shape::Path, 3_999),
@@ -166,7 +168,8 @@ fn large_trees(random: &mut Random) -> Vec<Forms> {
         (Shape::Comb, 16_131),
         (Shape::Path, 65_535),
     ];
-    trees.into_iter().map(|(shape, n)| Forms::of(parent_list(shape, n, random))).collect()
+    let trees = trees.map(|(shape, n)| parent_list(shape, n, random));
+    trees.into_iter().flat_map(|parents| Forms::of_both_versions(random, &parents)).collect()
 }
 
 /// How many faults of a large tree are tried, one at a time and two at a time; of a small one all are.
@@ -235,12 +238,15 @@ fn pairs(places: usize) -> Vec<(usize, usize)> {
 /// Header numbers "taken together": small ones with the strings of small trees, then all around the limits.
 pub fn headers(comparison: &mut Comparison, random: &mut Random) -> Result<(), Enough> {
     for parents in (1..=4).flat_map(all_trees) {
-        let forms = Forms::of(parents);
-        for n in 0..=6 {
-            for m in 0..=6 {
-                for blocks in 4..=6 {
-                    let image = with_words(&forms.image, &[(0, 1, n), (0, 2, m), (0, 3, blocks)]);
-                    check_and_one_reading(comparison, random, &image, forms.node_count())?;
+        for forms in Forms::of_both_versions(random, &parents) {
+            for n in 0..=6 {
+                for m in 0..=6 {
+                    for blocks in 4..=7 {
+                        let version = random.pick(&[WITHOUT_METRES, WITH_METRES]);
+                        let header = [(0, 0, version), (0, 1, n), (0, 2, m), (0, 3, blocks)];
+                        let image = with_words(&forms.image, &header);
+                        check_and_one_reading(comparison, random, &image, forms.node_count())?;
+                    }
                 }
             }
         }
@@ -266,17 +272,29 @@ pub fn headers(comparison: &mut Comparison, random: &mut Random) -> Result<(), E
         65_536,
         u32::MAX,
     ];
-    for blocks in [5, 6, 7, 8, 9, 11, 37, 53] {
-        for n in NODES {
-            let near = [n.wrapping_sub(1), n, n.wrapping_add(1)];
-            let others = [0, 1, 2, 8_064, 8_065, 65_535, 65_536, u32::MAX];
-            for m in BTreeSet::from_iter(near.into_iter().chain(others)) {
-                // there is nothing after the header, so the strings are wrong at least
-                let zeros = vec![0; blocks as usize * BLOCK_BYTES];
-                let image = with_words(&zeros, &[(0, 0, 1), (0, 1, n), (0, 2, m), (0, 3, blocks)]);
-                check_and_one_reading(comparison, random, &image, 7)?;
+    for n in NODES {
+        let near = [n.wrapping_sub(1), n, n.wrapping_add(1)];
+        let others = [0, 1, 2, 8_064, 8_065, 65_535, 65_536, u32::MAX];
+        for m in BTreeSet::from_iter(near.into_iter().chain(others)) {
+            for version in [WITHOUT_METRES, WITH_METRES] {
+                for blocks in numbers_of_blocks(n, m) {
+                    // there is nothing after the header, so the strings are wrong at least
+                    let zeros = vec![0; blocks * BLOCK_BYTES];
+                    let header = [(0, 0, version), (0, 1, n), (0, 2, m), (0, 3, number(blocks))];
+                    check_and_one_reading(comparison, random, &with_words(&zeros, &header), 7)?;
+                }
             }
         }
     }
     Ok(())
+}
+
+/// Numbers of blocks to try with n and m: those of an image of either version, one less and one more, and a few others.
+fn numbers_of_blocks(n: u32, m: u32) -> BTreeSet<usize> {
+    let [n, m] = [n, m].map(|count| (count as usize).min(MOST_NODES + 1));
+    let near = [false, true].map(|measured| {
+        let blocks = Layout::of(n, m, measured).blocks();
+        [blocks - 1, blocks, blocks + 1]
+    });
+    near.concat().into_iter().chain([5, 6, 37, 53, 54, MOST_BLOCKS]).collect()
 }

@@ -6,6 +6,7 @@ mod forms;
 mod image_damage;
 mod image_faults;
 mod limits;
+mod metres;
 mod pages_and_rooms;
 mod parent_lists;
 mod questions_and_listings;
@@ -13,7 +14,7 @@ mod strings_and_packs;
 
 use super::comparison::{Comparison, Enough};
 use super::random::Random;
-use super::twelve_cases;
+use super::twelve_cases::{self, Case};
 
 /// A group of calls.
 pub struct Group {
@@ -35,6 +36,7 @@ const fn drawn(name: &'static str, run: fn(&mut Comparison, &mut Random) -> Resu
 /// All groups, the cheapest first.
 pub const GROUPS: &[Group] = &[
     fixed("the twelve cases", the_twelve_cases),
+    fixed("T with metres", t_with_metres),
     fixed("unreadable pages, every call", pages_and_rooms::every_call_at_pages),
     fixed("empty lists", pages_and_rooms::empty_lists),
     fixed("every room up to two too many", pages_and_rooms::every_room),
@@ -42,6 +44,7 @@ pub const GROUPS: &[Group] = &[
     fixed("every string up to 11 bits", every_small::strings),
     fixed("every tree up to 7 nodes", every_small::trees),
     fixed("every R1 and R0 up to 6 nodes", every_small::partitioned_strings),
+    fixed("lists of metres", metres::lists_of_metres),
     drawn("trees of every shape", limits::trees_of_every_shape),
     drawn("parent lists with bad entries", parent_lists::bad_entries),
     drawn("questions", questions_and_listings::questions),
@@ -63,7 +66,16 @@ pub const GROUPS: &[Group] = &[
 
 /// "Twelve checked by hand", with what comes back written down by hand.
 fn the_twelve_cases(comparison: &mut Comparison, _: &mut Random) -> Result<(), Enough> {
-    for case in twelve_cases::table() {
+    expected(comparison, twelve_cases::table())
+}
+
+/// The same for the tree of these cases with metres.
+fn t_with_metres(comparison: &mut Comparison, _: &mut Random) -> Result<(), Enough> {
+    expected(comparison, twelve_cases::with_metres())
+}
+
+fn expected(comparison: &mut Comparison, cases: Vec<Case>) -> Result<(), Enough> {
+    for case in cases {
         comparison.expect(case.call, case.answer, case.after)?;
     }
     Ok(())

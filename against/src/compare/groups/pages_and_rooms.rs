@@ -7,7 +7,7 @@ use super::forms::{allowed_questions, Forms};
 use crate::compare::call::Call;
 use crate::compare::comparison::{Comparison, Enough};
 use crate::compare::random::Random;
-use crate::compare::shapes::{parent_list, Shape};
+use crate::compare::shapes::Shape;
 use crate::compare::twelve_cases::T;
 
 const PLACEMENTS: usize = 3;
@@ -19,15 +19,16 @@ fn in_all_placements(comparison: &mut Comparison, call: &Call) -> Result<(), Eno
     Ok(())
 }
 
-/// The nine calls on one tree, every output with `spare` more room than it needs, or less.
+/// Every call on one tree, of those that make an image the one for its version, with each output `spare` longer than it
+/// needs to be, or shorter.
 fn calls_on(random: &mut Random, forms: &Forms, spare: isize) -> Vec<Call> {
     let (n, bits) = (forms.node_count(), forms.string.len());
     let parents = || forms.parents.clone();
     let bytes = || forms.bytes.clone();
     let image = || forms.image.clone();
-    let questions = allowed_questions(random, n, 100);
+    let questions = allowed_questions(random, n, forms.metres.is_some(), 100);
     let mut words = |needed: usize| random.words(needed.saturating_add_signed(spare));
-    let (one_parents, other_parents) = (words(n), words(n));
+    let (one_parents, other_parents, metres) = (words(n), words(n), words(n));
     let (starts, sizes, answers) = (words(1), words(1), words(100));
     let pairs = words(forms.numbers_listed(1));
     let mut room = |needed: usize| random.bytes(needed.saturating_add_signed(spare));
@@ -35,8 +36,9 @@ fn calls_on(random: &mut Random, forms: &Forms, spare: isize) -> Vec<Call> {
     vec![
         Call::StringOfParents { parents: parents(), bytes: string_room },
         Call::ParentsOfString { bytes: bytes(), bits, parents: one_parents },
-        Call::ImageOfParents { parents: parents(), image: image_room },
+        forms.sealing(image_room),
         Call::ParentsOfImage { image: image(), parents: other_parents },
+        Call::MetresOfImage { image: image(), metres },
         Call::CheckImage { image: image() },
         Call::Ask { image: image(), questions, answers },
         Call::Split { bytes: bytes(), bits, trees: 1, starts, sizes },
@@ -48,9 +50,9 @@ fn calls_on(random: &mut Random, forms: &Forms, spare: isize) -> Vec<Call> {
 /// Trees of many sizes and shapes, so that strings end in every way inside a byte and a word; rooms that do, one
 /// short, and longer.
 pub fn every_call_at_pages(comparison: &mut Comparison, random: &mut Random) -> Result<(), Enough> {
-    for n in (1..=40).chain([63, 64, 126, 300, 3_999, 4_000, 4_100, 8_100]) {
+    for n in (1..=40).chain([63, 64, 125, 126, 127, 300, 3_999, 4_000, 4_100, 8_100]) {
         for shape in [Shape::Path, Shape::Star, Shape::Bushy, Shape::Even] {
-            let forms = Forms::of(parent_list(shape, n, random));
+            let forms = Forms::of_shape(random, shape, n);
             for spare in [-1, 0, 5] {
                 for call in calls_on(random, &forms, spare) {
                     in_all_placements(comparison, &call)?;
@@ -63,10 +65,11 @@ pub fn every_call_at_pages(comparison: &mut Comparison, random: &mut Random) -> 
 
 /// Every call with each of its lists empty, alone and together, also with numbers that would ask for more.
 pub fn empty_lists(comparison: &mut Comparison, random: &mut Random) -> Result<(), Enough> {
-    let forms = Forms::of(T.to_vec());
-    for call in calls_on(random, &forms, 0) {
-        for choice in 0..8 {
-            in_all_placements(comparison, &emptied(call.clone(), choice))?;
+    for forms in Forms::of_both_versions(random, &T) {
+        for call in calls_on(random, &forms, 0) {
+            for choice in 0..8 {
+                in_all_placements(comparison, &emptied(call.clone(), choice))?;
+            }
         }
     }
     for bits in [0, 1, 8, 131_071, 131_072, usize::MAX, usize::MAX - 6, usize::MAX - 7] {
@@ -100,9 +103,18 @@ fn emptied(mut call: Call, choice: usize) -> Call {
             keep_unless(empty(0), parents);
             keep_unless(empty(1), image);
         }
+        Call::ImageWithMetres { parents, metres, image } => {
+            keep_unless(empty(0), parents);
+            keep_unless(empty(1), metres);
+            keep_unless(empty(2), image);
+        }
         Call::ParentsOfImage { image, parents } => {
             keep_unless(empty(0), image);
             keep_unless(empty(1), parents);
+        }
+        Call::MetresOfImage { image, metres } => {
+            keep_unless(empty(0), image);
+            keep_unless(empty(1), metres);
         }
         Call::CheckImage { image } => keep_unless(empty(0), image),
         Call::Ask { image, questions, answers } => {
@@ -136,15 +148,16 @@ fn keep_unless<T>(empty: bool, list: &mut Vec<T>) {
 /// Every room from none to two too many, for every output.
 pub fn every_room(comparison: &mut Comparison, random: &mut Random) -> Result<(), Enough> {
     for parents in [vec![0], vec![0, 1, 2], T.to_vec()] {
-        let forms = Forms::of(parents);
-        let longest = forms.image.len();
-        for room in 0..=longest + 2 {
-            let spare = room as isize - longest as isize;
-            // the other outputs need 100 elements or less, so before the last rounds they have no room at all
-            let others_have_room = spare >= -100;
-            for call in calls_on(random, &forms, spare) {
-                if others_have_room || matches!(call, Call::ImageOfParents { .. }) {
-                    comparison.compare(call)?;
+        for forms in Forms::of_both_versions(random, &parents) {
+            let longest = forms.image.len();
+            for room in 0..=longest + 2 {
+                let spare = room as isize - longest as isize;
+                // the other outputs need 100 elements or less, so before the last rounds they have no room at all
+                let others_have_room = spare >= -100;
+                for call in calls_on(random, &forms, spare) {
+                    if others_have_room || matches!(call, Call::ImageOfParents { .. } | Call::ImageWithMetres { .. }) {
+                        comparison.compare(call)?;
+                    }
                 }
             }
         }

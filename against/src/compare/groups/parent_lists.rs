@@ -1,12 +1,12 @@
 //! Parent lists that are none.
 
-use super::forms::{small_size, tree_of_size};
+use super::forms::{offered_metres, small_size, tree_of_size};
 use crate::compare::call::Call;
 use crate::compare::comparison::{Comparison, Enough};
 use crate::compare::random::Random;
 use crate::model::answers::number;
 
-/// Trees with one entry or two changed, offered to all three calls that take a parent list.
+/// Trees with one entry or two changed, offered to all four calls that take a parent list.
 pub fn bad_entries(comparison: &mut Comparison, random: &mut Random) -> Result<(), Enough> {
     for _ in 0..4_000 {
         let n = small_size(random);
@@ -49,8 +49,10 @@ fn offer(comparison: &mut Comparison, random: &mut Random, parents: Vec<u32>) ->
     let string_room = (2 * parents.len() + 8) / 8;
     let bytes = random.bytes(string_room);
     comparison.compare(Call::StringOfParents { parents: parents.clone(), bytes })?;
-    let image = random.bytes(5 * 512);
-    comparison.compare(Call::ImageOfParents { parents: parents.clone(), image })?;
+    let image = random.bytes(6 * 512);
+    comparison.compare(Call::ImageOfParents { parents: parents.clone(), image: image.clone() })?;
+    let metres = offered_metres(random, parents.len());
+    comparison.compare(Call::ImageWithMetres { parents: parents.clone(), metres, image })?;
     // after one tree, 100, in a buffer that mostly has room
     let room = if random.one_in(8) { 0 } else { string_room };
     let pack = [&[0b1000_0000], random.bytes(room).as_slice()].concat();

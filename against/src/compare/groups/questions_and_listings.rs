@@ -4,7 +4,7 @@ use super::forms::{allowed_question, allowed_questions, arguments, room_near, sm
 use crate::compare::call::Call;
 use crate::compare::comparison::{Comparison, Enough};
 use crate::compare::random::Random;
-use crate::compare::shapes::{parent_list, Shape};
+use crate::compare::shapes::Shape;
 use crate::model::answers::number;
 
 /// Lists of up to 258 questions to trees of all shapes, good and odd ones, in threes and not.
@@ -14,7 +14,7 @@ pub fn questions(comparison: &mut Comparison, random: &mut Random) -> Result<(),
         let n = if round % 150 == 0 { random.between(4_000, 20_000) } else { small_size(random) };
         let forms = Forms::drawn(random, n);
         for _ in 0..12 {
-            let questions = question_list(random, n);
+            let questions = question_list(random, n, forms.metres.is_some());
             let room = room_near(random, questions.len() / 3);
             let (image, answers) = (forms.image.clone(), random.words(room));
             comparison.compare(Call::Ask { image, questions, answers })?;
@@ -23,34 +23,34 @@ pub fn questions(comparison: &mut Comparison, random: &mut Random) -> Result<(),
     Ok(())
 }
 
-fn question_list(random: &mut Random, n: usize) -> Vec<i32> {
+fn question_list(random: &mut Random, n: usize, measured: bool) -> Vec<i32> {
     let count = match random.below(12) {
         0 => 256,
         1 => random.between(253, 258),
         2 => 0,
         _ => random.between(1, 24),
     };
-    let mut questions = allowed_questions(random, n, count);
+    let mut questions = allowed_questions(random, n, measured, count);
     if random.one_in(3) && count > 0 {
         // one odd question or two
         for _ in 0..random.between(1, 2) {
             let at = 3 * random.below(count);
-            questions[at..at + 3].copy_from_slice(&odd_question(random, n));
+            questions[at..at + 3].copy_from_slice(&odd_question(random, n, measured));
         }
     }
     if random.one_in(12) {
         // not in threes
-        questions.extend(&allowed_question(random, n)[..random.between(1, 2)]);
+        questions.extend(&allowed_question(random, n, measured)[..random.between(1, 2)]);
     }
     questions
 }
 
-/// A question with one number out of place.
-fn odd_question(random: &mut Random, n: usize) -> [i32; 3] {
-    let [mut kind, mut node, mut argument] = allowed_question(random, n);
+/// A question with one number that is out of place, or is only without metres.
+fn odd_question(random: &mut Random, n: usize, measured: bool) -> [i32; 3] {
+    let [mut kind, mut node, mut argument] = allowed_question(random, n, measured);
     let last = n as i32;
     match random.below(3) {
-        0 => kind = random.pick(&[0, -1, -10, 11, 12, 256, 257, i32::MIN, i32::MAX]),
+        0 => kind = random.pick(&[0, -1, -10, -11, 11, 12, 256, 257, i32::MIN, i32::MAX]),
         1 => node = random.pick(&[0, -1, -last, last + 1, 65_536, 65_537, i32::MIN, i32::MAX]),
         _ => argument = random.pick(&arguments(n)),
     }
@@ -60,13 +60,13 @@ fn odd_question(random: &mut Random, n: usize) -> [i32; 3] {
 /// Trees around depth 64 from all kinds of nodes, and trees of every shape.
 pub fn listings(comparison: &mut Comparison, random: &mut Random) -> Result<(), Enough> {
     for n in [62, 63, 64, 65, 66, 100, 300] {
-        let path = Forms::of(parent_list(Shape::Path, n, random));
+        let path = Forms::of_shape(random, Shape::Path, n);
         for node in 1..=n {
             list(comparison, random, &path, node)?;
         }
         // paths with leaves beside them, so that much is listed before the depth is passed
         for shape in [Shape::Comb, Shape::Deep, Shape::Broom] {
-            let forms = Forms::of(parent_list(shape, 2 * n, random));
+            let forms = Forms::of_shape(random, shape, 2 * n);
             for _ in 0..40 {
                 let node = random.between(1, 2 * n);
                 list(comparison, random, &forms, node)?;

@@ -99,7 +99,7 @@ struct Pack {
 }
 
 fn pack_of(trees: Vec<Vec<u32>>) -> Pack {
-    let bits = trees.iter().flat_map(|parents| Forms::of(parents.clone()).string).collect();
+    let bits = trees.iter().flat_map(|parents| Forms::of(parents.clone(), None).string).collect();
     Pack { trees, bits }
 }
 
@@ -238,11 +238,11 @@ fn joined_lengths(comparison: &mut Comparison, random: &mut Random) -> Result<()
 
 /// Strings whose tree goes on to its 65,535th or 65,536th one, alone and after another tree.
 fn ones_of_a_tree(comparison: &mut Comparison, random: &mut Random) -> Result<(), Enough> {
-    let largest = Forms::of(parent_list(Shape::Star, 65_535, random)).string;
+    let largest = Forms::of(parent_list(Shape::Star, 65_535, random), None).string;
     let last_one = largest.iter().rposition(|&bit| bit).expect("has ones");
     let mut one_more = largest.clone();
     one_more[last_one + 1] = true;
-    let path = Forms::of(parent_list(Shape::Path, 65_535, random)).string;
+    let path = Forms::of(parent_list(Shape::Path, 65_535, random), None).string;
     let mut path_goes_on = path.clone();
     *path_goes_on.last_mut().expect("not empty") = true;
     for string in [&largest, &one_more, &path, &path_goes_on] {

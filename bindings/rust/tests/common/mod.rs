@@ -4,9 +4,17 @@
 /// The tree T of `docs/FORMAT.md`.
 pub const T: [u32; 7] = [0, 1, 1, 1, 2, 2, 4];
 
+/// The metres of T's nodes, as there.
+pub const METRES_OF_T: [u32; 7] = [10, 20, 30, 40, 50, 60, 70];
+
 /// T's image.
 pub fn image_of_t() -> Vec<u8> {
     image_of(&T)
+}
+
+/// T's image with metres.
+pub fn image_of_t_with_metres() -> Vec<u8> {
+    image_with_metres_of(&T, &METRES_OF_T)
 }
 
 /// The image of a parent list.
@@ -15,6 +23,20 @@ pub fn image_of(parents: &[u32]) -> Vec<u8> {
     let counts = parlaqen::calls::image_of_parents(parents, &mut image).unwrap();
     image.truncate(counts.image_bytes());
     image
+}
+
+/// The image of a parent list and of metres.
+pub fn image_with_metres_of(parents: &[u32], metres: &[u32]) -> Vec<u8> {
+    let nodes = parents.len();
+    let mut image = vec![0; parlaqen::size::image_room(nodes) + parlaqen::size::metres_bytes(nodes)];
+    let counts = parlaqen::calls::image_with_metres(parents, metres, &mut image).unwrap();
+    image.truncate(counts.image_bytes_with_metres());
+    image
+}
+
+/// A number of metres for each of so many nodes: no two are the same, and all of the 32 bits are used.
+pub fn metres(nodes: usize) -> Vec<u32> {
+    (0..nodes as u32).map(|i| u32::MAX - i.wrapping_mul(2_654_435_761)).collect()
 }
 
 /// Each node below the one before it.

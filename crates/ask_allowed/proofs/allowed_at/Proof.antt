@@ -24,13 +24,13 @@ number-requires c κs = search needs
 returns : tie.Need-returns
 returns c =
     sym
-    (node-none _ (questionAt (c .before .before .before .args .asked .now) (c .before .before .before .args .i))
+    (node-none _ _ (questionAt (c .before .before .before .args .asked .now) (c .before .before .before .args .i))
     (omega (arith, c .before .number .ensures ∙ ap numberOf (c .before .before .signed-at .ensures))))
 
 returns-2 : tie.Need-returns-2
 returns-2 c =
     let e = c .before .before .number .ensures ∙ ap numberOf (c .before .before .before .signed-at .ensures) in
-    sym (node-beyond _ (questionAt (c .before .before .before .before .args .asked .now) (c .before .before .before .before .args .i)) (omega (arith, e)) (omega (arith, e)))
+    sym (node-beyond _ _ (questionAt (c .before .before .before .before .args .asked .now) (c .before .before .before .before .args .i)) (omega (arith, e)) (omega (arith, e)))
 
 mul-signed-at-2 : tie.Need-mul-signed-at-2
 mul-signed-at-2 c = search needs
@@ -55,14 +55,12 @@ argument-allowed-requires c κs = search needs
 
 returns-3 : tie.Need-returns-3
 returns-3 c =
+    let a = c .before .before .before .before .before .before .before .before .args in
     let e = c .before .before .before .before .before .before .number .ensures ∙ ap numberOf (c .before .before .before .before .before .before .before .signed-at .ensures) in
     c .argument-allowed .ensures
-    ∙ ap₂ (λ k z. allowedKind (kindOf (pos k)) z) (c .before .before .number2 .ensures ∙ ap numberOf (c .before .before .before .signed-at2 .ensures))
+    ∙ ap₂ (λ k z. allowedKind (a .metres) (kindOf (pos k)) z) (c .before .before .number2 .ensures ∙ ap numberOf (c .before .before .before .signed-at2 .ensures))
     (c .before .signed-at3 .ensures)
-    ∙ sym
-    (node-right _
-    (questionAt (c .before .before .before .before .before .before .before .before .args .asked .now) (c .before .before .before .before .before .before .before .before .args .i))
-    (omega (arith, e)) (omega (arith, e)))
+    ∙ sym (node-right _ _ (questionAt (a .asked .now) (a .i)) (omega (arith, e)) (omega (arith, e)))
 
 pub allowed-at-spec : {M : Type 1} → statement M
 allowed-at-spec =

@@ -10,10 +10,10 @@ use Rattle.ask_allowed.proofs.lowest_not_allowed.Statement.{statement}
 use Rattle.ask_allowed.proofs.lowest_not_allowed.Tie as tie
 
 abbrev Inv-loop : tie.InvT-loop
-Inv-loop asked n count i₀ i = (i ≤ count) × (notAllowed n (questions asked) 0 ≡ notAllowed n (questions (drop (3 * i) asked)) i)
+Inv-loop asked n metres count i₀ i = (i ≤ count) × (notAllowed n metres (questions asked) 0 ≡ notAllowed n metres (questions (drop (3 * i) asked)) i)
 
 abbrev μ-loop : tie.MeasureT-loop
-μ-loop asked n count i₀ i = count - i
+μ-loop asked n metres count i₀ i = count - i
 
 loop-holds : tie.Need-loop-holds Inv-loop μ-loop
 loop-holds c = (omega arith, refl)
@@ -29,9 +29,10 @@ cast-result c = omega arith
 
 returns : tie.Need-returns Inv-loop μ-loop
 returns c =
+    let a = c .before .before .before .before .args in
     sym
     (c .before .before .before .loop .inv .1
-    ∙ bad-here (c .before .before .before .before .args .n) (c .before .before .before .before .args .asked .now) (c .before .before .before .loop .i) (omega arith)
+    ∙ bad-here (a .n) (a .metres) (a .asked .now) (c .before .before .before .loop .i) (omega arith)
     (sym (c .before .allowed-at .ensures) ∙ not-true _ (c .if1 .taken)))
 
 add-i : tie.Need-add-i Inv-loop μ-loop
@@ -41,15 +42,18 @@ loop-less : tie.Need-loop-less Inv-loop μ-loop
 loop-less c = omega arith
 
 loop-again : tie.Need-loop-again Inv-loop μ-loop
-loop-again c = (
-  omega arith,
-  c .before .before .before .loop .inv .1
-      ∙ bad-next (c .before .before .before .before .args .n) (c .before .before .before .before .args .asked .now) (c .before .before .before .loop .i) (omega arith)
-      (sym (c .before .allowed-at .ensures) ∙ not-false _ (c .if1 .left)),
-)
+loop-again c =
+    let a = c .before .before .before .before .args in (
+      omega arith,
+      c .before .before .before .loop .inv .1
+          ∙ bad-next (a .n) (a .metres) (a .asked .now) (c .before .before .before .loop .i) (omega arith)
+          (sym (c .before .allowed-at .ensures) ∙ not-false _ (c .if1 .left)),
+    )
 
 returns-2 : tie.Need-returns-2 Inv-loop μ-loop
-returns-2 c = sym (c .before .loop .inv .1 ∙ bad-end (c .before .before .args .n) (c .before .before .args .asked .now) (c .before .loop .i) (omega arith))
+returns-2 c =
+    let a = c .before .before .args in
+    sym (c .before .loop .inv .1 ∙ bad-end (a .n) (a .metres) (a .asked .now) (c .before .loop .i) (omega arith))
 
 pub lowest-not-allowed-spec : {M : Type 1} → statement M
 lowest-not-allowed-spec =

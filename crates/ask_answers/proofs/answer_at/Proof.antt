@@ -45,7 +45,7 @@ signed-at-requires-3 c κs = search needs
 answer-kind-requires : tie.Need-answer-kind-requires
 answer-kind-requires c κs =
     let s = c .before .before .before .before .before .before in
-    let f = fine _ (questionAt (s .args .asked .now) (s .args .i)) (s .pre .1 .1) in
+    let f = fine _ _ (questionAt (s .args .asked .now) (s .args .i)) (s .pre .1 .1) in
     let k = c .before .before .before .number .ensures ∙ ap numberOf (c .before .before .before .before .signed-at .ensures) in
     let x = c .before .number2 .ensures ∙ ap numberOf (c .before .before .signed-at2 .ensures) in
     (record { sound = s .pre .0; some = omega (arith, f .some, x); most = omega (arith, f .within, x) }, (omega (arith, f .least, k), omega (arith, f .most, k)))
@@ -53,7 +53,7 @@ answer-kind-requires c κs =
 returns : tie.Need-returns
 returns c =
     c .answer-kind .ensures
-    ∙ answer-is _
+    ∙ answer-is _ _
     (questionAt (c .before .before .before .before .before .before .before .args .asked .now) (c .before .before .before .before .before .before .before .args .i)) _ _ _
     (c .before .before .before .before .number .ensures ∙ ap numberOf (c .before .before .before .before .before .signed-at .ensures))
     (c .before .before .number2 .ensures ∙ ap numberOf (c .before .before .before .signed-at2 .ensures)) (c .before .signed-at3 .ensures)

@@ -2,7 +2,7 @@
 use native.Mathlib.Omega.{arith}
 use mathlib.Core.Path.{_≡_}
 use Prim.Native.Nat.{ℕ, _≤_, _<_}
-use Rattle.meaning.specs.Image.{parentsIn}
+use Rattle.meaning.specs.Image.{listOf, metresIn, parentsIn}
 use Rattle.meaning.specs.Questions.{answer}
 use Rattle.ask_argument.specs.Values.{valueOf}
 use Rattle.ask_kinds.proofs.Numbers.{of-kind, past}
@@ -40,77 +40,86 @@ is-leaf-requires c κs = search needs
 sibling-at-requires : tie.Need-sibling-at-requires
 sibling-at-requires c κs = search needs
 
+metres-of-requires : tie.Need-metres-of-requires
+metres-of-requires c κs = search needs
+
 returns : tie.Need-returns
 unfolding answer
 returns c =
     let s = c .before .before .before in
     let a = s .args in
-    of-kind (parentsIn (a .b .now)) (a .kind) 1 (a .x) (c .parent-of .result) (valueOf (a .z)) (omega arith) (c .parent-of .ensures)
+    of-kind (parentsIn (a .b .now)) (listOf (metresIn (a .b .now))) (a .kind) 1 (a .x) (c .parent-of .result) (valueOf (a .z)) (omega arith) (c .parent-of .ensures)
 
 returns-2 : tie.Need-returns-2
 unfolding answer
 returns-2 c =
     let s = c .before .before .before in
     let a = s .args in
-    of-kind (parentsIn (a .b .now)) (a .kind) 2 (a .x) (c .first-child .result) (valueOf (a .z)) (omega arith) (c .first-child .ensures)
+    of-kind (parentsIn (a .b .now)) (listOf (metresIn (a .b .now))) (a .kind) 2 (a .x) (c .first-child .result) (valueOf (a .z)) (omega arith) (c .first-child .ensures)
 
 returns-3 : tie.Need-returns-3
 unfolding answer
 returns-3 c =
     let s = c .before .before .before in
     let a = s .args in
-    of-kind (parentsIn (a .b .now)) (a .kind) 3 (a .x) (c .last-child .result) (valueOf (a .z)) (omega arith) (c .last-child .ensures)
+    of-kind (parentsIn (a .b .now)) (listOf (metresIn (a .b .now))) (a .kind) 3 (a .x) (c .last-child .result) (valueOf (a .z)) (omega arith) (c .last-child .ensures)
 
 returns-4 : tie.Need-returns-4
 unfolding answer
 returns-4 c =
     let s = c .before .before .before in
     let a = s .args in
-    of-kind (parentsIn (a .b .now)) (a .kind) 4 (a .x) (c .next-sibling .result) (valueOf (a .z)) (omega arith) (c .next-sibling .ensures)
+    of-kind (parentsIn (a .b .now)) (listOf (metresIn (a .b .now))) (a .kind) 4 (a .x) (c .next-sibling .result) (valueOf (a .z)) (omega arith) (c .next-sibling .ensures)
 
 returns-5 : tie.Need-returns-5
 unfolding answer
 returns-5 c =
     let s = c .before .before .before in
     let a = s .args in
-    of-kind (parentsIn (a .b .now)) (a .kind) 5 (a .x) (c .previous-sibling .result) (valueOf (a .z)) (omega arith) (c .previous-sibling .ensures)
+    of-kind (parentsIn (a .b .now)) (listOf (metresIn (a .b .now))) (a .kind) 5 (a .x) (c .previous-sibling .result) (valueOf (a .z)) (omega arith) (c .previous-sibling .ensures)
 
 returns-6 : tie.Need-returns-6
 unfolding answer
 returns-6 c =
     let s = c .before .before .before in
     let a = s .args in
-    of-kind (parentsIn (a .b .now)) (a .kind) 6 (a .x) (c .degree-of .result) (valueOf (a .z)) (omega arith) (c .degree-of .ensures)
+    of-kind (parentsIn (a .b .now)) (listOf (metresIn (a .b .now))) (a .kind) 6 (a .x) (c .degree-of .result) (valueOf (a .z)) (omega arith) (c .degree-of .ensures)
 
 returns-7 : tie.Need-returns-7
 unfolding answer
 returns-7 c =
     let s = c .before .before .before in
     let a = s .args in
-    of-kind (parentsIn (a .b .now)) (a .kind) 7 (a .x) (c .child-rank .result) (valueOf (a .z)) (omega arith) (c .child-rank .ensures)
+    of-kind (parentsIn (a .b .now)) (listOf (metresIn (a .b .now))) (a .kind) 7 (a .x) (c .child-rank .result) (valueOf (a .z)) (omega arith) (c .child-rank .ensures)
 
 returns-8 : tie.Need-returns-8
 returns-8 c =
     let s = c .before .before .before in
     let a = s .args in
-    of-kind (parentsIn (a .b .now)) (a .kind) 8 (a .x) (c .child-number .result) (valueOf (a .z)) (omega arith) (c .child-number .ensures)
+    of-kind (parentsIn (a .b .now)) (listOf (metresIn (a .b .now))) (a .kind) 8 (a .x) (c .child-number .result) (valueOf (a .z)) (omega arith) (c .child-number .ensures)
 
 returns-9 : tie.Need-returns-9
 unfolding answer
 returns-9 c =
     let s = c .before .before .before in
     let a = s .args in
-    of-kind (parentsIn (a .b .now)) (a .kind) 9 (a .x) (c .is-leaf .result) (valueOf (a .z)) (omega arith) (c .is-leaf .ensures)
-
-ten : (k : ℕ) → k ≤ 10 → 9 < k → k ≡ 10
-ten k h g = omega arith
+    of-kind (parentsIn (a .b .now)) (listOf (metresIn (a .b .now))) (a .kind) 9 (a .x) (c .is-leaf .result) (valueOf (a .z)) (omega arith) (c .is-leaf .ensures)
 
 returns-10 : tie.Need-returns-10
 returns-10 c =
     let s = c .before .before .before in
     let a = s .args in
-    of-kind (parentsIn (a .b .now)) (a .kind) 10 (a .x) (c .sibling-at .result) (valueOf (a .z))
-    (ten (a .kind) (s .pre .1 .1) (past 9 (a .kind) (s .pre .1 .0) (c .before .match .rest))) (c .sibling-at .ensures)
+    of-kind (parentsIn (a .b .now)) (listOf (metresIn (a .b .now))) (a .kind) 10 (a .x) (c .sibling-at .result) (valueOf (a .z)) (omega arith) (c .sibling-at .ensures)
+
+eleven : (k : ℕ) → k ≤ 11 → 10 < k → k ≡ 11
+eleven k h g = omega arith
+
+returns-11 : tie.Need-returns-11
+returns-11 c =
+    let s = c .before .before .before in
+    let a = s .args in
+    of-kind (parentsIn (a .b .now)) (listOf (metresIn (a .b .now))) (a .kind) 11 (a .x) (c .metres-of .result) (valueOf (a .z))
+    (eleven (a .kind) (s .pre .1 .1) (past 10 (a .kind) (s .pre .1 .0) (c .before .match .rest))) (c .metres-of .ensures)
 
 pub answer-kind-spec : {M : Type 1} → statement M
 answer-kind-spec =
@@ -126,6 +135,7 @@ answer-kind-spec =
     child-number-requires
     is-leaf-requires
     sibling-at-requires
+    metres-of-requires
     returns
     returns-2
     returns-3
@@ -135,4 +145,5 @@ answer-kind-spec =
     returns-7
     returns-8
     returns-9
-    returns-10)
+    returns-10
+    returns-11)

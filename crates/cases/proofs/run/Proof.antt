@@ -8,10 +8,11 @@ use Rattle.cases.proofs.run.Statement.{statement}
 use Rattle.cases.proofs.run.Tie as tie
 
 abbrev Inv-loop : tie.InvT-loop
-Inv-loop text parents₀ bytes₀ at₀ parents bytes at = (at ≤ length text) × ((length parents ≡ length parents₀) × (length bytes ≡ length bytes₀))
+Inv-loop text parents₀ metres₀ bytes₀ at₀ parents metres bytes at =
+    (at ≤ length text) × (length parents ≡ length parents₀) × (length metres ≡ length metres₀) × (length bytes ≡ length bytes₀)
 
 abbrev μ-loop : tie.MeasureT-loop
-μ-loop text parents₀ bytes₀ at₀ parents bytes at = length text - at
+μ-loop text parents₀ metres₀ bytes₀ at₀ parents metres bytes at = length text - at
 
 loop-holds : tie.Need-loop-holds Inv-loop μ-loop
 loop-holds c = omega arith
@@ -55,6 +56,9 @@ same-length c = omega arith
 same-length-2 : tie.Need-same-length-2 Inv-loop μ-loop
 same-length-2 c = omega arith
 
+same-length-3 : tie.Need-same-length-3 Inv-loop μ-loop
+same-length-3 c = omega arith
+
 returns : tie.Need-returns Inv-loop μ-loop
 returns c = search needs
 
@@ -78,4 +82,5 @@ run-spec =
     loop-again
     same-length
     same-length-2
+    same-length-3
     returns)

@@ -7,7 +7,7 @@ use borrow.Author.Needs.{needs}
 use lib.ListN.{length}
 use Rattle.meaning.specs.Blocks.{blocksIn, wrongBlock}
 use Rattle.theory.specs.Layout.{AreBytes}
-use Rattle.theory.specs.Stages.{versionOf}
+use Rattle.theory.specs.Stages.{versionIn, Known}
 use Rattle.image_layout.specs.Fits.{LaidOut}
 use Rattle.image_string.specs.Decides.{Decides}
 use Rattle.image_string.proofs.Saying.{decides-held, decides-missed}
@@ -16,7 +16,7 @@ use Rattle.image_found.specs.Checked.{numbered}
 use Rattle.image_found.proofs.Finding.{found-size, found-block}
 use Rattle.check_header.specs.declared.HeaderFound.the-variants.{Right}
 use Rattle.check_header.specs.Told.{HeaderIs}
-use Rattle.check_stages.specs.Passes.{StringsPass}
+use Rattle.check_stages.specs.Passes.{StagesPass}
 use Rattle.check_stages.proofs.Passing.{laid-out, together, apart}
 use Rattle.table_sizes.specs.ToCheck.{ImageSized}
 use Rattle.table_sizes.proofs.ToCheck.{none-wrong, told-wrong, told-right}
@@ -36,7 +36,7 @@ are : (c : tie.Else2) → AreBytes (c .before .before .before .before .before .a
 are c k h = omega (arith, c .before .before .before .before .shared-slice-known .given k)
 
 -- the version is known
-known : (c : tie.Else3) → versionOf (c .before .before .before .before .before .before .before .args .b .now) ≡ 1
+known : (c : tie.Else3) → Known (versionIn (c .before .before .before .before .before .before .before .args .b .now))
 known c = decides-held (c .before .version-known .result) _ (c .before .version-known .ensures) (c .if3 .left)
 
 -- what the header says
@@ -116,8 +116,8 @@ returns-4 c =
     let wrong = subst (λ h. HeaderIs h bytes) (c .before .enum-told .given .1) (c .before .before .before .read-header .ensures) in
     c .refused-by2 .ensures ∙ wrong-header bytes (are s) (sized (s .before .before)) (summed s) (known v) wrong
 
-strings-pass-requires : tie.Need-strings-pass-requires
-strings-pass-requires c κs = fitting c
+stages-pass-requires : tie.Need-stages-pass-requires
+stages-pass-requires c κs = fitting c
 
 returns-5 : tie.Need-returns-5
 returns-5 c =
@@ -127,7 +127,7 @@ returns-5 c =
     let s = v .before .before in
     let bytes = s .before .before .before .before .before .args .b .now in
     let layout = k .before .header .given .0 .0 in
-    let passed = subst (λ t. Decides t (StringsPass bytes layout)) (c .if4 .taken) (c .before .strings-pass .ensures) in
+    let passed = subst (λ t. Decides t (StagesPass bytes layout)) (c .if4 .taken) (c .before .stages-pass .ensures) in
     ap Sound (h .1) ∙ all-right bytes (are s) (sized (s .before .before)) (summed s) (known v) (h .0) (together bytes _ (h .1) (known v) (h .0) passed)
 
 what-is-wrong-requires : tie.Need-what-is-wrong-requires
@@ -148,7 +148,7 @@ returns-6 c =
     let s = v .before .before in
     let bytes = s .before .before .before .before .before .args .b .now in
     let layout = k .before .header .given .0 .0 in
-    let missed = subst (λ t. Decides t (StringsPass bytes layout)) (e .if4 .left) (e .before .strings-pass .ensures) in
+    let missed = subst (λ t. Decides t (StagesPass bytes layout)) (e .if4 .left) (e .before .stages-pass .ensures) in
     c .refused-by3 .ensures
     ∙ ap (λ f. Refused (numbered f)) (c .before .what-is-wrong .ensures)
     ∙ some-wrong bytes (are s) (sized (s .before .before)) (summed s) (known v) (h .0) (λ stages. missed (apart bytes _ (h .1) stages))
@@ -172,7 +172,7 @@ check-spec =
     enum-told
     refused-by-requires-2
     returns-4
-    strings-pass-requires
+    stages-pass-requires
     returns-5
     what-is-wrong-requires
     refused-by-requires-3

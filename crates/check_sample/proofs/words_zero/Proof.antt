@@ -1,57 +1,21 @@
 -- `check_sample::words_zero` meets its contract.
-use mathlib.Core.Path.{refl}
-use Prim.Native.Nat.{_+_, _*_, _/_, _%_}
+use mathlib.Core.Path.{subst}
+use Rattle.image_string.specs.Decides.{Decides}
+use Rattle.check_sample.specs.Words.{ListEnds}
 use borrow.Author.Needs.{needs}
-use Rattle.image_string.specs.Parts.{ZeroBytes}
-use Rattle.image_string.proofs.Saying.{decides-same}
-use Rattle.check_sample.specs.Words.{RestZero}
-use Rattle.check_sample.proofs.Ending.{rest-zero, zero-rest}
 use Rattle.check_sample.proofs.words_zero.Statement.{statement}
 use Rattle.check_sample.proofs.words_zero.Tie as tie
 
-add-count : tie.Need-add-count
-add-count c = search needs
+samples-of-requires : tie.Need-samples-of-requires
+samples-of-requires c κs = search needs
+
+list-ended-requires : tie.Need-list-ended-requires
+list-ended-requires c κs = search needs
 
 returns : tie.Need-returns
-returns c = search needs
-
-add-at : tie.Need-add-at
-add-at c = search needs
-
-mul-at : tie.Need-mul-at
-mul-at c = search needs
-
-mul-all-zero : tie.Need-mul-all-zero
-mul-all-zero c = search needs
-
-add-all-zero : tie.Need-add-all-zero
-add-all-zero c = search needs
-
-add-all-zero-2 : tie.Need-add-all-zero-2
-add-all-zero-2 c = search needs
-
-all-zero-requires : tie.Need-all-zero-requires
-all-zero-requires c κs = search needs
-
-returns-2 : tie.Need-returns-2
-returns-2 c =
+returns c =
     let a = c .before .before .before .args in
-    let b = a .b .now in
-    let s = (a .m + 63) / 64 in
-    let at = 512 * (a .samples + s / 126) in
-    decides-same (c .all-zero .result) (ZeroBytes b (at + 4 * (s % 126)) (at + 504)) (RestZero b (a .samples) (a .m))
-    (rest-zero b (a .samples) (a .m) s refl (c .before .if1 .left) at refl) (zero-rest b (a .samples) (a .m) s refl (c .before .if1 .left) at refl) (c .all-zero .ensures)
+    subst (λ k. Decides (c .list-ended .result) (ListEnds (a .b .now) (a .samples) k)) (c .before .samples-of .ensures) (c .list-ended .ensures)
 
 pub words-zero-spec : {M : Type 1} → statement M
-words-zero-spec =
-    tie.close
-    (tie.spec
-    add-count
-    returns
-    add-at
-    mul-at
-    mul-all-zero
-    add-all-zero
-    add-all-zero-2
-    all-zero-requires
-    returns-2)
+words-zero-spec = tie.close (tie.spec samples-of-requires list-ended-requires returns)

@@ -1,13 +1,33 @@
 -- `fault_counts::wrong_counts` meets its contract.
+use mathlib.Core.Path.{subst}
 use native.Mathlib.Omega.{arith}
 use borrow.Author.Needs.{needs}
 use Rattle.theory.specs.Layout.{AreBytes}
-use Rattle.fault_counts.proofs.Kept.{named-R1, named-R0, named-S1, named-S0}
+use Rattle.theory.specs.Stages.{samplesOf, wordBlocks, blocksOfSamples}
+use Rattle.theory.specs.Faults.{LowestWrong, RestKept}
+use Rattle.fault_counts.proofs.Kept.{named-R1, named-R0, named-S1, named-S0, named-metres}
 use Rattle.fault_counts.proofs.wrong_counts.Statement.{statement}
 use Rattle.fault_counts.proofs.wrong_counts.Tie as tie
 
 are : (c : tie.After-shared-slice-known) → AreBytes (c .before .args .b .now)
 are c k h = omega (arith, c .shared-slice-known .given k)
+
+-- what was found after the samples of each string
+after-r1 : (c : tie.After-wrong-after-list)
+    → let a = c .before .before .before .before .before .before .before .before .before .before .before .args in
+    LowestWrong (RestKept (a .b .now) (a .layout .«r1_samples») (samplesOf (a .layout .runs))) (a .layout .«r1_samples») (blocksOfSamples (a .layout .runs)) (c .wrong-after-list .result)
+after-r1 c =
+    let a = c .before .before .before .before .before .before .before .before .before .before .before .args in
+    subst (λ k. LowestWrong (RestKept (a .b .now) (a .layout .«r1_samples») k) (a .layout .«r1_samples») (wordBlocks k) (c .wrong-after-list .result))
+    (c .before .before .samples-of .ensures) (c .wrong-after-list .ensures)
+
+after-r0 : (c : tie.After-wrong-after-list2)
+    → let a = c .before .before .before .before .before .before .before .before .before .before .before .before .before .before .args in
+    LowestWrong (RestKept (a .b .now) (a .layout .«r0_samples») (samplesOf (a .layout .runs))) (a .layout .«r0_samples») (blocksOfSamples (a .layout .runs)) (c .wrong-after-list2 .result)
+after-r0 c =
+    let a = c .before .before .before .before .before .before .before .before .before .before .before .before .before .before .args in
+    subst (λ k. LowestWrong (RestKept (a .b .now) (a .layout .«r0_samples») k) (a .layout .«r0_samples») (wordBlocks k) (c .wrong-after-list2 .result))
+    (c .before .before .before .before .before .samples-of .ensures) (c .wrong-after-list2 .ensures)
 
 cast-n : tie.Need-cast-n
 cast-n c = search needs
@@ -44,43 +64,69 @@ returns-2 c =
     named-R0 (known .before .args .b .now) (known .before .args .layout) (are known) (known .before .pre .0) (known .before .pre .1 .0)
     (known .before .pre .1 .1 .1 .1 .0) (known .before .pre .1 .1 .1 .1 .1 .0) (r1 .result) (r1 .ensures) (e1 .if1 .left) (r0 .result) (r0 .ensures) (c .if2 .taken)
 
-cast-wrong-after-samples : tie.Need-cast-wrong-after-samples
-cast-wrong-after-samples c = search needs
+cast-samples-of : tie.Need-cast-samples-of
+cast-samples-of c = search needs
 
-wrong-after-samples-requires : tie.Need-wrong-after-samples-requires
-wrong-after-samples-requires c κs = search needs
+samples-of-requires : tie.Need-samples-of-requires
+samples-of-requires c κs = search needs
+
+cast-wrong-after-list : tie.Need-cast-wrong-after-list
+cast-wrong-after-list c = search needs
+
+wrong-after-list-requires : tie.Need-wrong-after-list-requires
+wrong-after-list-requires c κs = search needs
 
 returns-3 : tie.Need-returns-3
 returns-3 c =
-    let e0 = c .before .before .before in
+    let e0 = c .before .before .before .before .before in
     let e1 = e0 .before .before in
     let known = e1 .before .before .before .before in
     let r1 = e1 .before .wrong-in-string in
     let r0 = e0 .before .wrong-in-string2 in
-    let s1 = c .before .wrong-after-samples in
     named-S1 (known .before .args .b .now) (known .before .args .layout) (are known) (known .before .pre .0) (known .before .pre .1 .0)
     (known .before .pre .1 .1 .1 .1 .0) (known .before .pre .1 .1 .1 .1 .1 .0) (r1 .result) (r1 .ensures) (e1 .if1 .left)
-    (r0 .result) (r0 .ensures) (e0 .if2 .left) (s1 .result) (s1 .ensures) (c .if3 .taken)
+    (r0 .result) (r0 .ensures) (e0 .if2 .left) (c .before .wrong-after-list .result) (after-r1 (c .before)) (c .if3 .taken)
 
-cast-wrong-after-samples-2 : tie.Need-cast-wrong-after-samples-2
-cast-wrong-after-samples-2 c = search needs
+cast-wrong-after-list-2 : tie.Need-cast-wrong-after-list-2
+cast-wrong-after-list-2 c = search needs
 
-wrong-after-samples-requires-2 : tie.Need-wrong-after-samples-requires-2
-wrong-after-samples-requires-2 c κs = search needs
+wrong-after-list-requires-2 : tie.Need-wrong-after-list-requires-2
+wrong-after-list-requires-2 c κs =
+    let s = c .before .before .before .before in
+    let start = s .before .before .before .before .before .before .before .before .before in
+    let p = start .pre in
+    let e = s .samples-of .ensures in
+    (omega (arith, e, p .1 .1 .0), (omega (arith, e, p .1 .1 .1 .0), (omega (arith, p .0), omega (arith, e, p .0))))
 
 returns-4 : tie.Need-returns-4
 returns-4 c =
-    let f = c .before .before in
-    let e0 = f .before .before .before in
+    let f = c .before .before .before in
+    let e0 = f .before .before .before .before .before in
     let e1 = e0 .before .before in
     let known = e1 .before .before .before .before in
     let r1 = e1 .before .wrong-in-string in
     let r0 = e0 .before .wrong-in-string2 in
-    let s1 = f .before .wrong-after-samples in
-    let s0 = c .wrong-after-samples2 in
     named-S0 (known .before .args .b .now) (known .before .args .layout) (are known) (known .before .pre .0) (known .before .pre .1 .0)
     (known .before .pre .1 .1 .1 .1 .0) (known .before .pre .1 .1 .1 .1 .1 .0) (r1 .result) (r1 .ensures) (e1 .if1 .left)
-    (r0 .result) (r0 .ensures) (e0 .if2 .left) (s1 .result) (s1 .ensures) (f .if3 .left) (s0 .result) (s0 .ensures)
+    (r0 .result) (r0 .ensures) (e0 .if2 .left) (f .before .wrong-after-list .result) (after-r1 (f .before)) (f .if3 .left)
+    (c .before .wrong-after-list2 .result) (after-r0 (c .before)) (c .if4 .taken)
+
+wrong-after-metres-requires : tie.Need-wrong-after-metres-requires
+wrong-after-metres-requires c κs = search needs
+
+returns-5 : tie.Need-returns-5
+returns-5 c =
+    let g = c .before in
+    let f = g .before .before .before in
+    let e0 = f .before .before .before .before .before in
+    let e1 = e0 .before .before in
+    let known = e1 .before .before .before .before in
+    let r1 = e1 .before .wrong-in-string in
+    let r0 = e0 .before .wrong-in-string2 in
+    named-metres (known .before .args .b .now) (known .before .args .layout) (are known) (known .before .pre .0) (known .before .pre .1 .0)
+    (known .before .pre .1 .1 .1 .1 .0) (known .before .pre .1 .1 .1 .1 .1 .0) (r1 .result) (r1 .ensures) (e1 .if1 .left)
+    (r0 .result) (r0 .ensures) (e0 .if2 .left) (f .before .wrong-after-list .result) (after-r1 (f .before)) (f .if3 .left)
+    (g .before .wrong-after-list2 .result) (after-r0 (g .before)) (g .if4 .left) (c .wrong-after-metres .result) (c .wrong-after-metres .ensures)
 
 pub wrong-counts-spec : {M : Type 1} → statement M
 wrong-counts-spec =
@@ -93,9 +139,13 @@ wrong-counts-spec =
     add-wrong-in-string
     wrong-in-string-requires-2
     returns-2
-    cast-wrong-after-samples
-    wrong-after-samples-requires
+    cast-samples-of
+    samples-of-requires
+    cast-wrong-after-list
+    wrong-after-list-requires
     returns-3
-    cast-wrong-after-samples-2
-    wrong-after-samples-requires-2
-    returns-4)
+    cast-wrong-after-list-2
+    wrong-after-list-requires-2
+    returns-4
+    wrong-after-metres-requires
+    returns-5)

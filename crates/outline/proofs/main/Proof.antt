@@ -11,9 +11,6 @@ use Rattle.outline.proofs.main.Tie as tie
 within : (c : tie.After-outline) → c .outline .result ≤ length (c .outline .last .1 .1 .0)
 within c = omega (arith, simp length-append at (ap length (c .outline .ensures .0)), c .outline .ensures .1)
 
-large-buffer-requires : tie.Need-large-buffer-requires
-large-buffer-requires c κs = search needs
-
 slice-aggregate-read-full : tie.Need-slice-aggregate-read-full
 slice-aggregate-read-full c = search needs
 
@@ -51,7 +48,6 @@ pub main-spec : {M : Type 1} → statement M
 main-spec =
     tie.close
     (tie.spec
-    large-buffer-requires
     slice-aggregate-read-full
     read-full-requires
     array-share-prefix-input

@@ -8,22 +8,22 @@ use Rattle.cases_script.proofs.material.plant.Statement.{statement}
 use Rattle.cases_script.proofs.material.plant.Tie as tie
 
 abbrev Inv-loop : tie.InvT-loop
-Inv-loop word numbers parents₀ p₀ seed₀ i₀ i-end parents p seed i = (i ≤ i-end) × ((i-end ≡ length parents₀) × (length parents ≡ length parents₀))
+Inv-loop word numbers list₀ p₀ seed₀ i₀ i-end list p seed i = (i ≤ i-end) × ((i-end ≡ length list₀) × (length list ≡ length list₀))
 
 abbrev μ-loop : tie.MeasureT-loop
-μ-loop word numbers parents₀ p₀ seed₀ i₀ i-end parents p seed i = i-end - i
+μ-loop word numbers list₀ p₀ seed₀ i₀ i-end list p seed i = i-end - i
 
 loop-holds : tie.Need-loop-holds Inv-loop μ-loop
 loop-holds c = omega arith
 
-parent-requires : tie.Need-parent-requires Inv-loop μ-loop
-parent-requires c κs = search needs
+planted-requires : tie.Need-planted-requires Inv-loop μ-loop
+planted-requires c κs = search needs
 
-mul-parents : tie.Need-mul-parents Inv-loop μ-loop
-mul-parents c = omega arith
+mul-list : tie.Need-mul-list Inv-loop μ-loop
+mul-list c = omega arith
 
-slice-write-parents : tie.Need-slice-write-parents Inv-loop μ-loop
-slice-write-parents c = omega arith
+slice-write-list : tie.Need-slice-write-list Inv-loop μ-loop
+slice-write-list c = omega arith
 
 stirred-requires : tie.Need-stirred-requires Inv-loop μ-loop
 stirred-requires c κs = search needs
@@ -50,9 +50,9 @@ plant-spec =
     Inv-loop
     μ-loop
     loop-holds
-    parent-requires
-    mul-parents
-    slice-write-parents
+    planted-requires
+    mul-list
+    slice-write-list
     stirred-requires
     add-i
     loop-less
