@@ -21,7 +21,7 @@ use Rattle.theory.proofs.Bits.{I≢O}
 use Rattle.theory.proofs.Scan.{nodes-ones}
 use Rattle.theory.proofs.Odd.{tree-counts}
 use Rattle.theory.proofs.Forms.{length-parents, string-parents}
-use Rattle.theory.proofs.Navigate.{counted, children-are, ones-before-is, onesBefore-mono, ranked}
+use Rattle.theory.proofs.Navigate.{counted, children-are, ones-before-is, onesBefore-mono, is-placed}
 use Rattle.theory.proofs.TreeImages.{is-image, parents-in}
 use Rattle.theory.proofs.Stages.{image-stages, parts-read}
 use Rattle.image_layout.specs.declared.Layout.{Layout}
@@ -134,7 +134,7 @@ module _ (bytes : List ℕ) (i : Layout) (found : checked bytes ≡ Sound i) whe
   last-mark x zero mark g h e = absurd (omega arith)
   last-mark x (suc y) mark g h e =
       let t = tree .0 in
-      let r = ranked t y (omega (arith, onesBeforeIn-most (x + 1), tree .4, nodes-ones t)) in
+      let r = is-placed t y (omega (arith, onesBeforeIn-most (x + 1), tree .4, nodes-ones t)) in
       let p = entry (parents t) (suc y) in
       let same : p ≡ x = only p (omega (arith, r .above, is-in p)) (omega (arith, r .upto, is-in (suc p), ap (onesBeforeIn bytes) (add-one p))) in
       let bit : bitOf (readR1 bytes) (suc y) ≡ getD (R1 (lbs t)) (suc y - 1) I = ap (λ s. bitOf s (suc y)) read1 in

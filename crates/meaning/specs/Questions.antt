@@ -30,9 +30,9 @@ unfolding childrenOf
 siblingsOf ps x = childrenOf ps (entry ps x)
 
 -- a node's place among its siblings, from 1: how many of the nodes up to x have x's parent
-unfoldable pub rankOf : List ℕ → ℕ → ℕ
+unfoldable pub placeOf : List ℕ → ℕ → ℕ
 unfolding childrenOf
-rankOf ps x = length (childrenOf (take x ps) (entry ps x))
+placeOf ps x = length (childrenOf (take x ps) (entry ps x))
 
 -- ---- The ten kinds that ask the tree.
 
@@ -60,20 +60,20 @@ childAt ps x (negsuc a) = 0
 
 -- the sibling z places to the right, to the left where z is negative
 unfoldable pub siblingAt : List ℕ → ℕ → ℤ → ℕ
-unfolding siblingsOf rankOf
-siblingAt ps x (pos a) = entry (siblingsOf ps x) (rankOf ps x + a)
-siblingAt ps x (negsuc a) = entry (siblingsOf ps x) (rankOf ps x - suc a)
+unfolding siblingsOf placeOf
+siblingAt ps x (pos a) = entry (siblingsOf ps x) (placeOf ps x + a)
+siblingAt ps x (negsuc a) = entry (siblingsOf ps x) (placeOf ps x - suc a)
 
 -- the answer about node x, with argument z
 unfoldable pub answer : List ℕ → Ask → ℕ → ℤ → ℕ
-unfolding childrenOf childAt siblingAt rankOf
+unfolding childrenOf childAt siblingAt placeOf
 answer ps parent x z = entry ps x
 answer ps firstChild x z = entry (childrenOf ps x) 1
 answer ps lastChild x z = entry (childrenOf ps x) (length (childrenOf ps x))
 answer ps nextSibling x z = siblingAt ps x (pos 1)
 answer ps previousSibling x z = siblingAt ps x (negsuc 0)
 answer ps degree x z = length (childrenOf ps x)
-answer ps rank x z = rankOf ps x
+answer ps rank x z = placeOf ps x
 answer ps child x z = childAt ps x z
 answer ps leaf x z = isNone (length (childrenOf ps x))
 answer ps sibling x z = siblingAt ps x z

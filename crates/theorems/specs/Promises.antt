@@ -17,7 +17,7 @@ use Rattle.meaning.specs.Blocks.{blocksIn, wrongBlock}
 use Rattle.meaning.specs.Image.{Content, Measured, FitImage, imageOfString, image, parentsIn, metresIn, isImage, samples}
 use Rattle.meaning.specs.Scan.{Kind, one, many, Small, Place, place}
 use Rattle.meaning.specs.Packs.{startsOf, sizesOf, sizes, starts}
-use Rattle.meaning.specs.Questions.{Ask, childrenOf, siblingsOf, rankOf, siblingAt, answer}
+use Rattle.meaning.specs.Questions.{Ask, childrenOf, siblingsOf, placeOf, siblingAt, answer}
 use Rattle.meaning.specs.Listing.{listing, deep}
 use Rattle.meaning.specs.declared.Answer.{Answer}
 use Rattle.meaning.specs.Answers.{Row, settle}
@@ -150,7 +150,7 @@ abbrev pub OwnParent : Type 0
 OwnParent = (t : Tree) (x : ℕ) → 2 ≤ x → x ≤ nodes t
     → let p = entry (parents t) x in
     (1 ≤ p) × (p < x)
-    × (nodeAt t x .address ≡ rankOf (parents t) x ∷ nodeAt t p .address)
+    × (nodeAt t x .address ≡ placeOf (parents t) x ∷ nodeAt t p .address)
     × (depth (nodeAt t x) ≡ suc (depth (nodeAt t p)))
     × (map (nodeAt t) (siblingsOf (parents t) x) ≡ childNodes (nodeAt t p))
 

@@ -10,11 +10,11 @@ use lib.Seq.{getD-append-add}
 use Rattle.meaning.specs.Trees.{Tree, Trees, node, none, _then_, listed, Node, degreeOf, siblingNodes, nodesUnder, childNodes, endToEnd, levelOrder, nodes, degrees}
 use Rattle.meaning.specs.Strings.{Bit, O, I, unary, lbs}
 use Rattle.meaning.specs.Parents.{parents, entry}
-use Rattle.meaning.specs.Questions.{childrenOf, rankOf}
+use Rattle.meaning.specs.Questions.{childrenOf, placeOf}
 use Rattle.theory.specs.Rank.{onesBefore, counting}
 use Rattle.theory.specs.Walks.{root, nodeAt, Number}
 use Rattle.theory.proofs.Levels.{level-law}
-use Rattle.theory.proofs.Navigate.{children-are, ranked, Rank, onesBefore-zero}
+use Rattle.theory.proofs.Navigate.{children-are, is-placed, Placed, onesBefore-zero}
 use Rattle.theory.proofs.Answers.{lo, degree-is}
 use Rattle.theory.proofs.Parents.{parents-are}
 use Rattle.theory.proofs.Forms.{length-parents}
@@ -94,10 +94,10 @@ map-counting f d (x ∷ l) i (suc n) e h =
 pub record IsChild (t : Tree) (x p : ℕ) : Type 0 where
   pub from : 1 ≤ p
   pub before : p < x
-  pub some : 1 ≤ rankOf (parents t) x
-  pub room : rankOf (parents t) x ≤ degreeOf (nodeAt t p)
-  pub place : lo t p + rankOf (parents t) x ≡ x
-  pub address : nodeAt t x .address ≡ rankOf (parents t) x ∷ nodeAt t p .address
+  pub some : 1 ≤ placeOf (parents t) x
+  pub room : placeOf (parents t) x ≤ degreeOf (nodeAt t p)
+  pub place : lo t p + placeOf (parents t) x ≡ x
+  pub address : nodeAt t x .address ≡ placeOf (parents t) x ∷ nodeAt t p .address
 
 module _ (t : Tree) where
   pub first-node : nodeAt t 1 ≡ root t
@@ -139,11 +139,11 @@ module _ (t : Tree) where
       let x : ℕ = suc (suc k) in
       let p : ℕ = entry (parents t) x in
       let r = parents-are t .rule x (omega arith) (omega (arith, length-parents t)) in
-      let q : Rank t x p = ranked t (suc k) (omega (arith, nodes-ones t)) in
+      let q : Placed t x p = is-placed t (suc k) (omega (arith, nodes-ones t)) in
       let s = lo-step p (r .0) (omega (arith, r .1)) in
       let n : ℕ = x - lo t p - 1 in
       let b : n < degreeOf (nodeAt t p) = omega (arith, s, q .above, q .upto) in
-      let e : suc n ≡ rankOf (parents t) x = omega (arith, q .rank, q .above) in
+      let e : suc n ≡ placeOf (parents t) x = omega (arith, q .place, q .above) in
       record {
         from = r .0;
         before = omega (arith, r .1);
@@ -156,7 +156,7 @@ module _ (t : Tree) where
             ∙ ap (λ m. m ∷ nodeAt t p .address) e;
       }
 
-  pub address-step : (x : ℕ) → 2 ≤ x → x ≤ nodes t → nodeAt t x .address ≡ rankOf (parents t) x ∷ nodeAt t (entry (parents t) x) .address
+  pub address-step : (x : ℕ) → 2 ≤ x → x ≤ nodes t → nodeAt t x .address ≡ placeOf (parents t) x ∷ nodeAt t (entry (parents t) x) .address
   address-step x g h = is-child x g h .address
 
   -- ---- a node's address is its own

@@ -11,8 +11,8 @@ use Rattle.meaning.specs.Trees.{Tree}
 use Rattle.meaning.specs.Strings.{O, I, lbs, ones, R1, R0}
 use Rattle.meaning.specs.Parents.{parents, entry}
 use Rattle.theory.specs.Rank.{onesBefore, counting}
-use Rattle.meaning.specs.Questions.{childrenOf, rankOf, siblingAt, childAt}
-use Rattle.theory.proofs.Navigate.{children-are, ranked, Rank, onesBefore-mono, leaf-mark}
+use Rattle.meaning.specs.Questions.{childrenOf, placeOf, siblingAt, childAt}
+use Rattle.theory.proofs.Navigate.{children-are, is-placed, Placed, onesBefore-mono, leaf-mark}
 use Rattle.theory.proofs.Runs.{R0-bits}
 use Rattle.theory.proofs.Odd.{tree-counts}
 
@@ -60,41 +60,41 @@ module _ (t : Tree) where
     abbrev pub p : ℕ
     p = entry (parents t) x
 
-    pub placed : Rank t x p
+    pub placed : Placed t x p
     placed = go x some node
       where
-        go : (x : ℕ) → 1 ≤ x → x ≤ ones (lbs t) → Rank t x (entry (parents t) x)
+        go : (x : ℕ) → 1 ≤ x → x ≤ ones (lbs t) → Placed t x (entry (parents t) x)
         go zero g h = absurd (omega arith)
-        go (suc i) g h = ranked t i h
+        go (suc i) g h = is-placed t i h
 
-    pub rank-is : rankOf (parents t) x ≡ x - lo p
-    rank-is = placed .rank
+    pub place-is : placeOf (parents t) x ≡ x - lo p
+    place-is = placed .place
 
     pub right-there : (a : ℕ) → x + a ≤ lo (suc p) → siblingAt (parents t) x (pos a) ≡ x + a
     unfolding siblingAt
     right-there a h =
         let r = placed in
-        ap₂ entry (children-are t p) (ap (λ k. k + a) rank-is)
+        ap₂ entry (children-are t p) (ap (λ k. k + a) place-is)
         ∙ upto-at (lo p) (lo (suc p)) (x - lo p + a) (omega (arith, r .above)) (omega (arith, r .above)) ∙ omega (arith, r .above)
 
     pub right-none : (a : ℕ) → lo (suc p) < x + a → siblingAt (parents t) x (pos a) ≡ 0
     unfolding siblingAt
     right-none a h =
         let r = placed in
-        ap₂ entry (children-are t p) (ap (λ k. k + a) rank-is)
+        ap₂ entry (children-are t p) (ap (λ k. k + a) place-is)
         ∙ upto-past (lo p) (lo (suc p)) (x - lo p + a) (omega (arith, r .above))
 
     pub left-there : (a : ℕ) → lo p + suc a < x → siblingAt (parents t) x (negsuc a) ≡ x - suc a
     unfolding siblingAt
     left-there a h =
         let r = placed in
-        ap₂ entry (children-are t p) (ap (λ k. k - suc a) rank-is)
+        ap₂ entry (children-are t p) (ap (λ k. k - suc a) place-is)
         ∙ upto-at (lo p) (lo (suc p)) (x - lo p - suc a) (omega arith) (omega (arith, r .upto)) ∙ omega arith
 
     pub left-none : (a : ℕ) → x ≤ lo p + suc a → siblingAt (parents t) x (negsuc a) ≡ 0
     unfolding siblingAt
     left-none a h =
-        ap₂ entry (children-are t p) (ap (λ k. k - suc a) rank-is)
+        ap₂ entry (children-are t p) (ap (λ k. k - suc a) place-is)
         ∙ ap (entry (counting (1 + lo p) (lo (suc p) - lo p))) (let e : x - lo p - suc a ≡ 0 = omega arith in e)
 
     -- x has a next sibling exactly if R1 has 0 at x

@@ -14,7 +14,7 @@ use Rattle.meaning.specs.Parents.{parents, each, entry}
 use Rattle.theory.proofs.Runs.{ends, ends1, ends0, R1-bits, R0-bits}
 use Rattle.theory.proofs.Bits.{I≢O}
 use Rattle.theory.specs.Rank.{onesLeft, position, onesBefore, counting}
-use Rattle.meaning.specs.Questions.{keep, numbersOf, childrenOf, rankOf}
+use Rattle.meaning.specs.Questions.{keep, numbersOf, childrenOf, placeOf}
 
 -- ---- the parents, read off the bits: for each one, how many zeros are before it
 
@@ -255,24 +255,24 @@ between (I ∷ bs) z zero h = (0, between-first bs z)
 between (I ∷ bs) z (suc i) h = let r = between bs z i (omega arith) in (r .0, between-I bs z i (r .0) (r .1))
 between (O ∷ bs) z i h = let r = between bs (suc z) i h in (suc (r .0), between-O bs z i (r .0) (r .1))
 
--- node x comes after the ones before its parent's zero, up to those before the next; and its rank
-pub record Rank (t : Tree) (x p : ℕ) : Type 0 where
+-- node x comes after the ones before its parent's zero, up to those before the next; and its place
+pub record Placed (t : Tree) (x p : ℕ) : Type 0 where
   pub above : onesBefore (lbs t) p < x
   pub upto : x ≤ onesBefore (lbs t) (suc p)
-  pub rank : rankOf (parents t) x ≡ x - onesBefore (lbs t) p
+  pub place : placeOf (parents t) x ≡ x - onesBefore (lbs t) p
   pub next : (getD (R1 (lbs t)) (x - 1) I ≡ O) ↔ (x < onesBefore (lbs t) (suc p))
 
-pub ranked : (t : Tree) (i : ℕ) → suc i ≤ ones (lbs t) → Rank t (suc i) (entry (parents t) (suc i))
-unfolding rankOf childrenOf
-ranked t i l =
+pub is-placed : (t : Tree) (i : ℕ) → suc i ≤ ones (lbs t) → Placed t (suc i) (entry (parents t) (suc i))
+unfolding placeOf childrenOf
+is-placed t i l =
     let s = lbs t in
     let r = between s 0 i l in
     let k = r .0 in
     let e : entry (parents t) (suc i) ≡ k =
     ap (λ q. getD q i 0) (parents-bits t) ∙ r .1 .parent ∙ zero-add k in
-    subst (λ p. Rank t (suc i) p) (sym e) (record {
+    subst (λ p. Placed t (suc i) p) (sym e) (record {
       above = omega (arith, r .1 .low);
       upto = omega (arith, r .1 .high);
-      rank = ap₂ (λ q p. length (numbersOf (take (suc i) q) p 1)) (parents-bits t) (e ∙ sym (zero-add k)) ∙ r .1 .count 1;
+      place = ap₂ (λ q p. length (numbersOf (take (suc i) q) p 1)) (parents-bits t) (e ∙ sym (zero-add k)) ∙ r .1 .count 1;
       next = subst₂ (λ b m. (getD b m I ≡ O) ↔ (suc i < onesBefore s (suc k))) (sym (R1-bits s)) (let f : i ≡ suc i - 1 = omega arith in f) (r .1 .next);
     })

@@ -10,11 +10,11 @@ use lib.ListN.{length}
 use Rattle.meaning.specs.Trees.{Tree, degreeOf, nodes, degrees}
 use Rattle.meaning.specs.Strings.{Bit, O, I, unary, lbs, ones}
 use Rattle.meaning.specs.Parents.{parents, entry}
-use Rattle.meaning.specs.Questions.{Ask, parent, firstChild, lastChild, nextSibling, previousSibling, degree, rank, child, leaf, sibling, isNone, childrenOf, rankOf, childAt, siblingAt, answer}
+use Rattle.meaning.specs.Questions.{Ask, parent, firstChild, lastChild, nextSibling, previousSibling, degree, rank, child, leaf, sibling, isNone, childrenOf, placeOf, childAt, siblingAt, answer}
 use Rattle.theory.specs.Rank.{onesBefore}
 use Rattle.theory.specs.Walks.{root, nodeAt, Number, At, ChildAt, SiblingAt, Above, Ranks, Gives}
 use Rattle.theory.proofs.Navigate.{onesBefore-zero}
-use Rattle.theory.proofs.Answers.{lo, child-there, child-none, rank-is, right-there, right-none, left-none}
+use Rattle.theory.proofs.Answers.{lo, child-there, child-none, place-is, right-there, right-none, left-none}
 use Rattle.theory.proofs.Scan.{nodes-ones}
 use Rattle.theory.proofs.Addresses.{child-address, first-node, lo-step, degree-at, child-node, is-child, address-step, number-unique, number-of, parent-number}
 
@@ -80,15 +80,15 @@ module _ (t : Tree) where
   root-sibling (pos (suc k)) = right-none t 1 (omega arith) some-ones (suc k) (omega (arith, ap (λ p. lo t (suc p)) first-parent, lo-one))
   root-sibling (negsuc k) = left-none t 1 (omega arith) some-ones k (omega arith)
 
-  root-rank : rankOf (parents t) 1 ≡ 1
-  root-rank = rank-is t 1 (omega arith) some-ones ∙ omega (arith, ap (lo t) first-parent, lo-zero)
+  root-rank : placeOf (parents t) 1 ≡ 1
+  root-rank = place-is t 1 (omega arith) some-ones ∙ omega (arith, ap (lo t) first-parent, lo-zero)
 
   -- ---- node x among its siblings
 
-  -- a node is the root, or child number `rankOf` of the node at its entry
+  -- a node is the root, or child number `placeOf` of the node at its entry
   by-address : (P : List ℕ → ℕ → Type 0) (x : ℕ) → 1 ≤ x → x ≤ nodes t
       → P [] 1
-      → (2 ≤ x → P (rankOf (parents t) x ∷ nodeAt t (entry (parents t) x) .address) x)
+      → (2 ≤ x → P (placeOf (parents t) x ∷ nodeAt t (entry (parents t) x) .address) x)
       → P (nodeAt t x .address) x
   by-address P zero g h r c = absurd (omega arith)
   by-address P (suc zero) g h r c = subst (λ v. P (v .address) 1) (sym (first-node t)) r
@@ -98,14 +98,14 @@ module _ (t : Tree) where
     own-parent : Above t (nodeAt t x .address) (entry (parents t) x)
     own-parent = by-address (λ a y. Above t a (entry (parents t) y)) x g h first-parent (λ m. parent-number t x m h _ _ (address-step t x m h))
 
-    own-rank : Ranks (nodeAt t x .address) (rankOf (parents t) x)
-    own-rank = by-address (λ a y. Ranks a (rankOf (parents t) y)) x g h root-rank (λ m. refl)
+    own-rank : Ranks (nodeAt t x .address) (placeOf (parents t) x)
+    own-rank = by-address (λ a y. Ranks a (placeOf (parents t) y)) x g h root-rank (λ m. refl)
 
-    under-parent : 2 ≤ x → (z : ℤ) → SiblingAt t (rankOf (parents t) x ∷ nodeAt t (entry (parents t) x) .address) z (siblingAt (parents t) x z)
+    under-parent : 2 ≤ x → (z : ℤ) → SiblingAt t (placeOf (parents t) x ∷ nodeAt t (entry (parents t) x) .address) z (siblingAt (parents t) x z)
     unfolding siblingAt
-    under-parent m (pos k) = let c = is-child t x m h in child-at (entry (parents t) x) (rankOf (parents t) x + k) (c .from) (omega (arith, c .before))
+    under-parent m (pos k) = let c = is-child t x m h in child-at (entry (parents t) x) (placeOf (parents t) x + k) (c .from) (omega (arith, c .before))
     under-parent m (negsuc k) =
-        let c = is-child t x m h in child-at (entry (parents t) x) (rankOf (parents t) x - suc k) (c .from) (omega (arith, c .before))
+        let c = is-child t x m h in child-at (entry (parents t) x) (placeOf (parents t) x - suc k) (c .from) (omega (arith, c .before))
 
     own-sibling : (z : ℤ) → SiblingAt t (nodeAt t x .address) z (siblingAt (parents t) x z)
     own-sibling z = by-address (λ a y. SiblingAt t a z (siblingAt (parents t) y z)) x g h (root-sibling z) (λ m. under-parent m z)
