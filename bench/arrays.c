@@ -50,7 +50,8 @@ static void open_tree(void *of)
     }
 }
 
-static uint32_t rank(const struct tree *tree, uint32_t x)
+/* The place of x among its siblings, from 1; the root is an only child. */
+static uint32_t place(const struct tree *tree, uint32_t x)
 {
     return x == 1 ? 1 : x - tree->first_child[tree->parent[x]] + 1;
 }
@@ -71,10 +72,10 @@ static uint32_t answer_one(const struct tree *tree, int32_t kind, uint32_t x, in
     case PLQ_NEXT_SIBLING: return tree->next_sibling[x];
     case PLQ_PREVIOUS_SIBLING: return tree->next_sibling[x - 1] == 0 ? 0 : x - 1;
     case PLQ_DEGREE: return tree->degree[x];
-    case PLQ_CHILD_RANK: return rank(tree, x);
+    case PLQ_CHILD_RANK: return x == 1 ? 0 : place(tree, x);
     case PLQ_CHILD_NUMBER: return child(tree, x, argument);
     case PLQ_LEAF: return tree->first_child[x] == 0;
-    default: return child(tree, tree->parent[x], (int64_t)rank(tree, x) + argument);
+    default: return child(tree, tree->parent[x], (int64_t)place(tree, x) + argument);
     }
 }
 

@@ -78,7 +78,7 @@ struct Tree {
         case PLQ_NEXT_SIBLING: return r1.has_one(x) ? 0 : x + 1;
         case PLQ_PREVIOUS_SIBLING: return x == 1 || r1.has_one(x - 1) ? 0 : x - 1;
         case PLQ_DEGREE: return degree(x);
-        case PLQ_CHILD_RANK: return x - before_siblings(x);
+        case PLQ_CHILD_RANK: return x == 1 ? 0 : x - before_siblings(x);
         case PLQ_CHILD_NUMBER: return child(x, argument);
         case PLQ_LEAF: return !r0.has_one(x);
         default: return sibling(x, argument);

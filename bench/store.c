@@ -582,7 +582,7 @@ static uint32_t answer(const struct image *im, int32_t kind, uint32_t x, int32_t
         if (!has_one(&im->r0, x)) return 0;
         before = nodes_before_zero(im, x);
         return one_from(&im->r1, before + 1) - before;
-    case PLQ_CHILD_RANK: return x - one_before(&im->r1, x);
+    case PLQ_CHILD_RANK: return x == 1 ? 0 : x - one_before(&im->r1, x);
     case PLQ_CHILD_NUMBER: return child_number(im, x, argument);
     case PLQ_LEAF: return !has_one(&im->r0, x);
     case PLQ_METRES: return listed(im->metres, x - 1);

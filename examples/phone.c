@@ -84,7 +84,7 @@ static int show_around(const uint8_t *image, size_t size, int32_t node, int has_
     static const struct {
         const char *name;
         int32_t kind, argument;
-        int names_a_node; /* then 0 is none; else it is a number like any other */
+        int zero_is_none; /* for a node, and for a rank, which the root has not; else 0 is a number like any other */
     } asked[] = {
         {"parent", PLQ_PARENT, 0, 1},
         {"children", PLQ_DEGREE, 0, 0},
@@ -92,7 +92,7 @@ static int show_around(const uint8_t *image, size_t size, int32_t node, int has_
         {"second child", PLQ_CHILD_NUMBER, 2, 1},
         {"last child", PLQ_LAST_CHILD, 0, 1},
         {"leaf", PLQ_LEAF, 0, 0},
-        {"rank among its siblings", PLQ_CHILD_RANK, 0, 0},
+        {"rank among its siblings", PLQ_CHILD_RANK, 0, 1},
         {"previous sibling", PLQ_PREVIOUS_SIBLING, 0, 1},
         {"next sibling", PLQ_NEXT_SIBLING, 0, 1},
         {"sibling two to the left", PLQ_SIBLING_AT, -2, 1},
@@ -109,7 +109,7 @@ static int show_around(const uint8_t *image, size_t size, int32_t node, int has_
 
     printf("node %d\n", (int)node);
     for (size_t i = 0; i < count; i++)
-        if (asked[i].names_a_node && answers[i] == 0)
+        if (asked[i].zero_is_none && answers[i] == 0)
             printf("  %s: none\n", asked[i].name);
         else
             printf("  %s: %u\n", asked[i].name, (unsigned)answers[i]);

@@ -21,9 +21,9 @@
 #include <stdint.h>
 
 #define PLQ_VERSION_MAJOR 0
-#define PLQ_VERSION_MINOR 4
+#define PLQ_VERSION_MINOR 5
 #define PLQ_VERSION_PATCH 0
-#define PLQ_VERSION_STRING "0.4.0"
+#define PLQ_VERSION_STRING "0.5.0"
 
 /* The library's sizes have 64 bits on every machine. A call with shorter ones would hand it lists of other lengths. */
 #if SIZE_MAX != 0xFFFFFFFFFFFFFFFFu
@@ -78,7 +78,7 @@ enum plq_kind {
     PLQ_NEXT_SIBLING = 4,
     PLQ_PREVIOUS_SIBLING = 5,
     PLQ_DEGREE = 6,       /* the number of children */
-    PLQ_CHILD_RANK = 7,   /* its place among its siblings, from 1; the root's is 1 */
+    PLQ_CHILD_RANK = 7,   /* its place among its siblings, from 1; 0 for the root, which has none */
     PLQ_CHILD_NUMBER = 8, /* argument: which child, from 1 */
     PLQ_LEAF = 9,         /* 1 if it has no children, else 0 */
     PLQ_SIBLING_AT = 10,  /* argument: how many places to the right, to the left where negative */

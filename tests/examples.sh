@@ -26,6 +26,11 @@ same "phone, with metres" "$expected/phone-with-metres.txt" phone-with-metres.tx
 sed 's/, metres [0-9]*$//; /^  metres: [0-9]*$/d' phone-with-metres.txt | cmp phone.txt
 passed "phone: seasons, weeks, and all kinds of questions; metres where there are some, and no word of them elsewhere"
 
+phone diary.plq 1 >phone-root.txt
+same "phone, the root" "$expected/phone-root.txt" phone-root.txt
+phone with-metres.plq 1 | sed 's/, metres [0-9]*$//; /^  metres: [0-9]*$/d' | cmp "$expected/phone-root.txt"
+passed "phone: the root has no rank and is an only child, without metres and with them"
+
 watch >watch.txt
 same "watch" "$expected/watch.txt" watch.txt
 for ((bit = 1; bit <= 27; bit++)); do

@@ -121,7 +121,7 @@ static uint32_t answer_by_lists(int32_t kind, uint32_t node, int32_t argument)
     case PLQ_NEXT_SIBLING: return node < youngest ? node + 1 : 0;
     case PLQ_PREVIOUS_SIBLING: return node > eldest ? node - 1 : 0;
     case PLQ_DEGREE: return degree(node);
-    case PLQ_CHILD_RANK: return node - eldest + 1;
+    case PLQ_CHILD_RANK: return node == 1 ? 0 : node - eldest + 1;
     case PLQ_CHILD_NUMBER:
         return argument >= 1 && (uint32_t)argument <= degree(node) ? first_child[node] + (uint32_t)argument - 1 : 0;
     case PLQ_LEAF: return degree(node) == 0;

@@ -1162,6 +1162,7 @@ fn tables_of_t(both: &mut Both, t: &Example) -> Tables {
         [5, 2, 0],
         [6, 1, 0],
         [7, 4, 0],
+        [7, 1, 0],
         [8, 2, 2],
         [9, 3, 0],
         [10, 2, 2],
@@ -1546,6 +1547,8 @@ fn sentences(both: &mut Both, header: &str, t: &Example) -> Vec<(&'static str, V
     let over_at = parts_of_bits(&bits_of_text("100")).map_or(0, |parts| 2 * parts[0].tree.node_count() + 1);
     let value_of_bit = |bit: usize| bytes_of_bits(&bits_of_text(&format!("{}1", "0".repeat(bit - 1))))[(bit - 1) / 8];
     let values = [1, 8, 9].map(|bit| value_of_bit(bit).into());
+    let rank_of_root = both.ask(&t.image, &[[7, 1, 0]])[0] as usize;
+    let alone = ["PLQ_NEXT_SIBLING", "PLQ_PREVIOUS_SIBLING", "PLQ_SIBLING_AT"].map(code);
     let numbers: &[(&str, &[usize])] = &[
         ("questions and samples are numbered from {}.", &[1]),
         ("- Blocks, words of a block and bytes are numbered from {}.", &[0]),
@@ -1587,7 +1590,9 @@ fn sentences(both: &mut Both, header: &str, t: &Example) -> Vec<(&'static str, V
         ("An answer {} for a node means", &[0]),
         ("for kinds {}, {} and {} it is a", &[code("PLQ_DEGREE"), code("PLQ_LEAF"), code("PLQ_METRES")]),
         ("Kind {} is not allowed where the image has no metres.", &[code("PLQ_METRES")]),
-        ("The rank of the root is {}, its place", &[both.ask(&t.image, &[[7, 1, 0]])[0] as usize]),
+        ("no rank: kind {} answers {} for node {}, and", &[code("PLQ_CHILD_RANK"), rank_of_root, 1]),
+        ("its place among its siblings, from {}.", &[1]),
+        ("For kinds {}, {} and {} the root is an only child.", &alone),
         ("Kinds {} and {} take", &[code("PLQ_CHILD_NUMBER"), code("PLQ_SIBLING_AT")]),
         ("take every argument, the others only {}.", &[0]),
         ("lets select answer -{} for one number {}.", &[1, 0]),

@@ -78,21 +78,21 @@ const CODES_OF_CALLS: &[(&str, &[u32])] = &[
     ("plq_list", &[0, 1, 2, 6, 8, 9, 11, 12, 13, 14, 15]),
 ];
 
-/// Each group has random numbers of its own, so that what it draws does not depend on the groups before it.
-fn random_of_group(seed: u64, index: usize) -> Random {
-    Random::new(Random::new(seed.wrapping_add(index as u64)).draw() ^ seed)
+/// Each group has random numbers of its own, by its name, so that what it draws does not depend on which groups there
+/// are and in which order.
+fn random_of_group(seed: u64, group: &Group) -> Random {
+    Random::new(group.name.bytes().fold(seed, |state, byte| Random::new(state ^ u64::from(byte)).draw()))
 }
 
 /// Runs one group and prints a line for it, and a few lines for each difference.
-fn run_group(subject: &mut Subject, seed: u64, index: usize, differences: usize) -> Totals {
-    let group = &GROUPS[index];
+fn run_group(subject: &mut Subject, seed: u64, group: &Group, differences: usize) -> Totals {
     // the name first: it is all there is if the library never comes back
     print!("{}: ", group.name);
     std::io::stdout().flush().expect("standard output is there");
     let began = Instant::now();
     let mut comparison = Comparison::new(subject, Limits { differences, comparisons: u64::MAX });
     // the number of differences says whether the group was left early
-    let _ = (group.run)(&mut comparison, &mut random_of_group(seed, index));
+    let _ = (group.run)(&mut comparison, &mut random_of_group(seed, group));
     let Comparison { count, codes, differences, .. } = comparison;
     let seconds = began.elapsed().as_secs_f64();
     println!("{count} comparisons, differences {} ({seconds:.1} s)", differences.len());
@@ -105,8 +105,8 @@ fn run_group(subject: &mut Subject, seed: u64, index: usize, differences: usize)
 /// Runs all groups that are wanted and prints a total; ends early at the tenth difference.
 pub fn run_groups(subject: &mut Subject, seed: u64, wanted: fn(&Group) -> bool) -> Totals {
     let mut totals = Totals::default();
-    for (index, _) in GROUPS.iter().enumerate().filter(|(_, group)| wanted(group)) {
-        totals.add(run_group(subject, seed, index, MOST_DIFFERENCES - totals.differences));
+    for group in GROUPS.iter().filter(|group| wanted(group)) {
+        totals.add(run_group(subject, seed, group, MOST_DIFFERENCES - totals.differences));
         if totals.differences == MOST_DIFFERENCES {
             break;
         }
@@ -134,9 +134,9 @@ pub fn run_for(subject: &mut Subject, seed: u64, minutes: f64) -> Totals {
 /// The first difference that any group finds in its first so many comparisons.
 pub fn first_difference(subject: &mut Subject, seed: u64, comparisons: u64) -> Option<String> {
     let limits = Limits { differences: 1, comparisons };
-    for (index, group) in GROUPS.iter().enumerate() {
+    for group in GROUPS {
         let mut comparison = Comparison::new(subject, limits);
-        let _ = (group.run)(&mut comparison, &mut random_of_group(seed, index));
+        let _ = (group.run)(&mut comparison, &mut random_of_group(seed, group));
         if let Some(difference) = comparison.differences.pop() {
             return Some(format!("group '{}', {difference}", group.name));
         }

@@ -1,5 +1,5 @@
 //! "Twelve checked by hand", written down by hand once more: each call with the answer and the lists that come back.
-//! Then the same for their tree T with metres.
+//! Then the same for their tree T with metres, and for T's root, which has no rank.
 
 use super::call::Call;
 use crate::model::answers::Answer;
@@ -12,7 +12,7 @@ pub const METRES_OF_T: [u32; 7] = [10, 20, 30, 40, 50, 60, 70];
 
 /// A call and what comes back.
 pub struct Case {
-    /// The number in document 01 of the case that it is, or that is like it but for the metres.
+    /// The number in document 01 of the case that it is, or that is like it but for the metres or the node.
     pub number: usize,
     pub call: Call,
     pub answer: Answer,
@@ -187,6 +187,22 @@ pub fn with_metres() -> Vec<Case> {
     ]
 }
 
+/// The root of T has no rank, in either version, and stays an only child; node 7 is one too and keeps its rank.
+pub fn of_the_root() -> Vec<Case> {
+    let each = [image_of_t(), image_of_t_with_metres()].map(|image| {
+        let with_argument = Call::Ask { image: image.clone(), questions: vec![7, 2, 0, 7, 1, 1], answers: vec![99; 2] };
+        let ranks = [7, 1, 0, 7, 2, 0, 7, 3, 0, 7, 4, 0, 7, 5, 0, 7, 6, 0, 7, 7, 0];
+        let siblings = [4, 1, 0, 5, 1, 0, 10, 1, 0, 10, 1, 1, 10, 1, -1, 10, 1, i32::MAX, 10, 1, i32::MIN];
+        [
+            asked(10, &image, &[7, 1, 0], &[0]),
+            asked(10, &image, &ranks, &[0, 1, 2, 3, 1, 2, 1]),
+            asked(11, &image, &siblings, &[0, 0, 1, 0, 0, 0, 0]),
+            call_refused(10, with_argument, 8, 2),
+        ]
+    });
+    each.into_iter().flatten().collect()
+}
+
 /// All cases, in order; what is left of case 1, R1 and R0 by themselves, is inside the image of case 2.
 pub fn table() -> Vec<Case> {
     let t_image = image_of_t();
@@ -232,7 +248,7 @@ mod tests {
 
     #[test]
     fn the_model_gives_every_case() {
-        for Case { number, mut call, answer, after } in table().into_iter().chain(with_metres()) {
+        for Case { number, mut call, answer, after } in [table(), with_metres(), of_the_root()].into_iter().flatten() {
             assert_eq!(call.by_model(), answer, "case {number}");
             assert_eq!(call, after, "case {number}");
         }

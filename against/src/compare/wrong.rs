@@ -690,6 +690,49 @@ pub const WRONG: &[Wrong] = &[
         },
     },
     Wrong {
+        name: "ask-root-has-rank",
+        what: "plq_ask answers kind 7 with 1 for the root",
+        spoil: |_, after, answer| {
+            if let (0, Call::Ask { questions, answers, .. }) = (answer.code, after) {
+                for (question, answer) in questions.chunks(3).zip(answers) {
+                    if let [7, 1, _] = question {
+                        *answer = 1;
+                    }
+                }
+            }
+        },
+    },
+    Wrong {
+        name: "ask-counts-siblings-from-rank",
+        what: "plq_ask answers kinds 4, 5 and 10 for the root as if it had place 0 among its siblings",
+        spoil: |_, after, answer| {
+            if let (0, Call::Ask { questions, answers, .. }) = (answer.code, after) {
+                for (question, answer) in questions.chunks(3).zip(answers) {
+                    match question {
+                        [4, 1, _] => *answer = 1,
+                        [5, 1, _] => *answer = 0,
+                        [10, 1, places] => *answer = u32::from(*places == 1),
+                        _ => {}
+                    }
+                }
+            }
+        },
+    },
+    Wrong {
+        name: "ask-only-child-has-no-rank",
+        what: "plq_ask answers kind 7 with 0 for every only child",
+        spoil: |_, after, answer| {
+            if let (0, Call::Ask { image, questions, answers }) = (answer.code, after) {
+                let tree = candidate(image).expect("accepted");
+                for (question, answer) in questions.chunks(3).zip(answers) {
+                    if question[0] == 7 && tree.siblings(question[1] as usize).len() == 1 {
+                        *answer = 0;
+                    }
+                }
+            }
+        },
+    },
+    Wrong {
         name: "ask-refuses-least-argument",
         what: "plq_ask does not allow the argument -2^31",
         spoil: |before, after, answer| {

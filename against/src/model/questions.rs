@@ -51,20 +51,22 @@ fn answer_to(content: &Content, kind: i32, node: usize, argument: i32) -> Option
 fn answer_of_tree(tree: &Tree, kind: i32, node: usize, argument: i32) -> Option<usize> {
     let children = tree.children(node);
     let siblings = tree.siblings(node);
-    // "Ranks count from 1; the root's rank is 1, its place under the super-root."
-    let rank = 1 + siblings.iter().position(|&sibling| sibling == node).expect("under its parent");
+    // "Kinds 4, 5 and 10 otherwise treat the root as an only child", and "keep their answers": they count from the place.
+    let place = 1 + siblings.iter().position(|&sibling| sibling == node).expect("under its parent");
+    // "Ranks count from 1", and "kind 7 on the root answers 0".
+    let rank = if node == 1 { 0 } else { place };
     match kind {
         1 => Some(tree.parent(node)),
         2 => Some(node_at(children, 1)),
         3 => Some(node_at(children, as_place(children.len()))),
-        4 => Some(node_at(siblings, as_place(rank) + 1)),
-        5 => Some(node_at(siblings, as_place(rank) - 1)),
+        4 => Some(node_at(siblings, as_place(place) + 1)),
+        5 => Some(node_at(siblings, as_place(place) - 1)),
         6 => Some(children.len()),
         7 => Some(rank),
         8 => Some(node_at(children, i64::from(argument))),
         9 => Some(usize::from(children.is_empty())),
         // "as many places to the right as the argument says, to the left where it is negative"
-        10 => Some(node_at(siblings, as_place(rank) + i64::from(argument))),
+        10 => Some(node_at(siblings, as_place(place) + i64::from(argument))),
         _ => None,
     }
 }

@@ -52,12 +52,12 @@ impl Screen {
         Ok(lines)
     }
 
-    /// The path to where the screen is. The root is where every path begins and is no part of it.
+    /// The path to where the screen is. The root is where every path begins and is no part of it: it has no rank.
     fn place(&self) -> Result<Vec<u32>> {
         let mut path = Vec::new();
         let mut node = self.at;
-        while let Some(parent) = self.diary.parent(node)? {
-            path.push(self.diary.child_rank(node)?);
+        while let (Some(rank), Some(parent)) = (self.diary.child_rank(node)?, self.diary.parent(node)?) {
+            path.push(rank);
             node = parent;
         }
         path.reverse();

@@ -7,6 +7,7 @@ use core::hash::{Hash, Hasher};
 use crate::calls::parents_of_image;
 use crate::calls::{check_image, counts, list, metres_of_image, Counts};
 use crate::error::{question_at, Handed, NUMBERS_OF_QUESTION};
+use crate::question::rank;
 #[cfg(feature = "alloc")]
 use crate::size;
 use crate::{sys, Answer, Error, Listing, Node, Nodes, Question, Result, Seal, MOST_QUESTIONS};
@@ -295,24 +296,26 @@ impl<B: AsRef<[u8]>> Image<B> {
         one_number(self.as_bytes(), node, Question::Degree(node))
     }
 
-    /// The number of the node among its siblings, from 1, as the library has it; the root's is 1.
+    /// The rank of the node, its number among its siblings, from 1; none for the root.
     ///
-    /// For every other node, [`child`](Self::child) of its parent and this number is the node again.
+    /// For every other node, [`child`](Self::child) of its parent and this number is the node again. So a screen that
+    /// shows "2 of 3" beside a node, its rank and the [`degree`](Self::degree) of its parent, shows nothing beside the
+    /// root.
     ///
     /// ```
     /// # use parlaqen::{size, Image, Node};
     /// # let mut room = [0; size::image_room(7)];
     /// # let image = Image::seal_in(&[0, 1, 1, 1, 2, 2, 4], &mut room)?;
-    /// assert_eq!(image.child_rank(Node::try_from(6)?)?, 2);
-    /// assert_eq!(image.child_rank(Node::ROOT)?, 1);
+    /// assert_eq!(image.child_rank(Node::try_from(6)?)?, Some(2));
+    /// assert_eq!(image.child_rank(Node::ROOT)?, None);
     /// # Ok::<(), parlaqen::Error>(())
     /// ```
     ///
     /// # Errors
     ///
     /// [`Error::NoSuchNode`]; if the bytes have changed, those of [`Image::check`].
-    pub fn child_rank(&self, node: Node) -> Result<u32> {
-        one_number(self.as_bytes(), node, Question::ChildRank(node))
+    pub fn child_rank(&self, node: Node) -> Result<Option<u32>> {
+        one_number(self.as_bytes(), node, Question::ChildRank(node)).map(rank)
     }
 
     /// The child of that number, from 1; none for 0 and where there are not so many children.

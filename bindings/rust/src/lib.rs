@@ -100,7 +100,7 @@ pub type Result<T> = core::result::Result<T, Error>;
 /// The version of this crate, which is that of the header it binds.
 ///
 /// ```
-/// assert!(parlaqen::VERSION.starts_with("0.4."));
+/// assert!(parlaqen::VERSION.starts_with("0.5."));
 /// ```
 pub const VERSION: &str = env!("CARGO_PKG_VERSION");
 /// The most nodes that a tree has.

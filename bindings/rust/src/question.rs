@@ -14,6 +14,8 @@ use crate::Node;
 /// let node = Node::try_from(2)?;
 /// image.ask_into(&[Question::Parent(node), Question::Degree(node), Question::Leaf(node)], &mut answers)?;
 /// assert_eq!(answers, [Answer::Node(Some(Node::ROOT)), Answer::Number(2), Answer::Leaf(false)]);
+/// let ranks = image.ask_into(&[Question::ChildRank(node), Question::ChildRank(Node::ROOT)], &mut answers)?;
+/// assert_eq!(ranks, [Answer::Rank(Some(1)), Answer::Rank(None)]); // the root has no rank
 /// # Ok::<(), parlaqen::Error>(())
 /// ```
 #[derive(Clone, Copy, Debug, PartialEq, Eq, Hash)]
@@ -31,7 +33,7 @@ pub enum Question {
     PreviousSibling(Node),
     /// Kind 6: the answer is the number of children.
     Degree(Node),
-    /// Kind 7: the answer is the number of the node among its siblings, from 1; the root's is 1.
+    /// Kind 7: the answer is the rank of the node, its number among its siblings, from 1; the root has none.
     ChildRank(Node),
     /// Kind 8: the child of that number.
     ChildNumber {
@@ -102,7 +104,8 @@ impl Question {
     /// The library's answer to this question.
     pub(crate) fn answer(self, number: u32) -> Answer {
         match self {
-            Self::Degree(_) | Self::ChildRank(_) | Self::Metres(_) => Answer::Number(number),
+            Self::Degree(_) | Self::Metres(_) => Answer::Number(number),
+            Self::ChildRank(_) => Answer::Rank(rank(number)),
             Self::Leaf(_) => Answer::Leaf(number != 0),
             Self::Parent(_)
             | Self::FirstChild(_)
@@ -124,6 +127,8 @@ impl Question {
 ///     Answer::Node(Some(node)) => format!("node {node}"),
 ///     Answer::Node(None) => "no node".to_string(),
 ///     Answer::Number(number) => format!("the number {number}"),
+///     Answer::Rank(Some(rank)) => format!("number {rank} among its siblings"),
+///     Answer::Rank(None) => "the root, which has no rank".to_string(),
 ///     Answer::Leaf(leaf) => format!("a leaf: {leaf}"),
 /// };
 /// assert_eq!(said(Answer::Node(Some(Node::ROOT))), "node 1");
@@ -135,6 +140,8 @@ pub enum Answer {
     Node(Option<Node>),
     /// The number asked for.
     Number(u32),
+    /// The number of the node among its siblings, from 1, or that it has none, as the root.
+    Rank(Option<u32>),
     /// Whether the node is a leaf.
     Leaf(bool),
 }
@@ -152,22 +159,24 @@ impl Answer {
     pub const fn node(self) -> Option<Node> {
         match self {
             Self::Node(node) => node,
-            Self::Number(_) | Self::Leaf(_) => None,
+            Self::Number(_) | Self::Rank(_) | Self::Leaf(_) => None,
         }
     }
 
-    /// The number, if the answer is one, which is so for a degree, a child rank and metres.
+    /// The number, if the answer is one, which is so for a degree, for metres, and for a rank but that of the root.
     ///
     /// ```
     /// use parlaqen::{Answer, Node};
     ///
     /// assert_eq!(Answer::Number(3).number(), Some(3));
+    /// assert_eq!((Answer::Rank(Some(3)).number(), Answer::Rank(None).number()), (Some(3), None));
     /// assert_eq!(Answer::Node(Some(Node::ROOT)).number(), None);
     /// ```
     #[must_use]
     pub const fn number(self) -> Option<u32> {
         match self {
             Self::Number(number) => Some(number),
+            Self::Rank(rank) => rank,
             Self::Node(_) | Self::Leaf(_) => None,
         }
     }
@@ -184,9 +193,14 @@ impl Answer {
     pub const fn leaf(self) -> Option<bool> {
         match self {
             Self::Leaf(leaf) => Some(leaf),
-            Self::Node(_) | Self::Number(_) => None,
+            Self::Node(_) | Self::Number(_) | Self::Rank(_) => None,
         }
     }
+}
+
+/// The library's answer to the question for a rank: 0 is none.
+pub(crate) fn rank(number: u32) -> Option<u32> {
+    (number != 0).then_some(number)
 }
 
 impl Default for Answer {

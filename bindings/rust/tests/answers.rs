@@ -122,7 +122,8 @@ fn all_eleven_kinds_answer_for_every_node_of_t() {
     assert_eq!(of_each(Question::NextSibling), nodes([0, 3, 4, 0, 6, 0, 0]));
     assert_eq!(of_each(Question::PreviousSibling), nodes([0, 0, 2, 3, 0, 5, 0]));
     assert_eq!(of_each(Question::Degree), [3, 2, 0, 1, 0, 0, 0].map(Answer::Number));
-    assert_eq!(of_each(Question::ChildRank), [1, 1, 2, 3, 1, 2, 1].map(Answer::Number));
+    let ranks = [None, Some(1), Some(2), Some(3), Some(1), Some(2), Some(1)];
+    assert_eq!(of_each(Question::ChildRank), ranks.map(Answer::Rank));
     assert_eq!(of_each(Question::Leaf), [0, 0, 1, 0, 1, 1, 1].map(|leaf| Answer::Leaf(leaf == 1)));
     assert_eq!(of_each(|node| Question::ChildNumber { node, number: 2 }), nodes([3, 6, 0, 0, 0, 0, 0]));
     assert_eq!(of_each(|node| Question::SiblingAt { node, right: -2 }), nodes([0, 0, 0, 2, 0, 0, 0]));

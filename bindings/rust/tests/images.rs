@@ -217,7 +217,7 @@ fn every_method_asks_for_its_bytes_once() {
     in_turn!(image.next_sibling(node(2)), Node::new(3), None);
     in_turn!(image.previous_sibling(three), Node::new(2), None);
     in_turn!(image.degree(Node::ROOT), 4, 1);
-    in_turn!(image.child_rank(three), 2, 1);
+    in_turn!(image.child_rank(three), Some(2), Some(1));
     in_turn!(image.child(Node::ROOT, 2), Node::new(3), None);
     in_turn!(image.sibling_at(three, -1), Node::new(2), None);
     in_turn!(image.is_leaf(node(2)), true, false);

@@ -68,7 +68,8 @@ fn every_answer_for_every_node_is_that_of_the_parent_list() {
             assert_eq!(image.next_sibling(node).unwrap(), optional(siblings.get(at + 1)));
             assert_eq!(image.previous_sibling(node).unwrap(), optional(siblings[..at].last()));
             assert_eq!(image.degree(node).unwrap() as usize, children.len());
-            assert_eq!(image.child_rank(node).unwrap() as usize, at + 1);
+            let rank = (node != Node::ROOT).then_some(at as u32 + 1);
+            assert_eq!(image.child_rank(node).unwrap(), rank);
             assert_eq!(image.is_leaf(node).unwrap(), children.is_empty());
             assert_eq!(numbers(&image.children(node).unwrap()), children);
             assert_eq!(numbers(&image.siblings(node).unwrap()), siblings);
@@ -118,7 +119,7 @@ fn a_path_of_child_ranks_leads_back() {
         let mut ranks = vec![];
         let mut above = node;
         while let Some(parent) = image.parent(above).unwrap() {
-            ranks.push(image.child_rank(above).unwrap());
+            ranks.push(image.child_rank(above).unwrap().expect("it is not the root"));
             above = parent;
         }
         let found = ranks.iter().rev().try_fold(Node::ROOT, |at, rank| image.child(at, *rank).unwrap());

@@ -166,6 +166,9 @@ cases =
     ∷ image-with-metres (0 ∷ 2 ∷ []) (10 ∷ []) (room 1) gives code 2 place 0 with (room 1 ∷ [])
     ∷ image-with-metres (0 ∷ 2 ∷ []) (10 ∷ 20 ∷ []) (room 1) gives code 3 place 2 with (room 1 ∷ [])
     ∷ check-image (treeT ++ block (10 ∷ 20 ∷ 30 ∷ 40 ∷ 50 ∷ 60 ∷ 70 ∷ 1 ∷ []) 286 34909) gives code 14 place 5 with []
+    -- document 02, item 3: the rank of the root and of node 2; the root itself, and none next to it
+    ∷ ask imageT (question 7 1 (pos 0) ++ question 7 2 (pos 0) ++ question 10 1 (pos 0) ++ question 4 1 (pos 0)) (room 5)
+    gives counts 4 0 with ((0 ∷ 1 ∷ 1 ∷ 0 ∷ 9 ∷ []) ∷ [])
     -- lists of 65,536 and of 65,535 numbers
     ∷ string-of-parents (replicate 65536 0) [] gives code 2 place 0 with ([] ∷ [])
     ∷ string-of-parents (replicate 65535 0) [] gives code 3 place 2 with ([] ∷ [])

@@ -225,6 +225,19 @@ abbrev pub AskedOfContent : Type 0
 AskedOfContent = (c : Content) (qs : List ℤ) (out : List ℕ) → FitImage c → Askable c qs out
     → (answers : List ℕ) × (askImage (image c) qs out ≡ cameTo (counts (length (questions qs)) 0) (written answers out)) × AllGiven c (questions qs) answers
 
+-- document 02, item 3: the question for the rank of the root is answered by 0, of any tree with
+-- metres or without
+abbrev pub RootAsked : Type 0
+RootAsked = (c : Content) (r : ℕ) (out : List ℕ) → FitImage c
+    → askImage (image c) (pos 7 ∷ pos 1 ∷ pos 0 ∷ []) (r ∷ out) ≡ cameTo (counts 1 0) (0 ∷ out)
+
+-- those for its siblings by what they always were: none next, none before, and z places away itself
+-- if z is 0, and else none
+abbrev pub RootAskedAlone : Type 0
+RootAskedAlone = (c : Content) (z : ℤ) (r s t : ℕ) (out : List ℕ) → FitImage c
+    → askImage (image c) (pos 4 ∷ pos 1 ∷ pos 0 ∷ pos 5 ∷ pos 1 ∷ pos 0 ∷ pos 10 ∷ pos 1 ∷ z ∷ []) (r ∷ s ∷ t ∷ out)
+    ≡ cameTo (counts 3 0) (0 ∷ 0 ∷ cond (isZero z) 1 0 ∷ out)
+
 -- ---- Listings.
 
 -- every node below x is less than 64 deeper

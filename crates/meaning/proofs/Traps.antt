@@ -12,7 +12,7 @@ use Rattle.meaning.specs.Scan.{one, place}
 use Rattle.meaning.specs.Blocks.{words}
 use Rattle.meaning.specs.Image.{imageOfString, headerWord, stringIn, metresIn, isImage}
 use Rattle.meaning.specs.Faults.{isHeader, areStrings, wrongKept, wrongSample}
-use Rattle.meaning.specs.Questions.{siblingAt, Question, questions, notAllowed}
+use Rattle.meaning.specs.Questions.{rankOf, siblingAt, Question, questions, notAllowed}
 use Rattle.meaning.specs.Listing.{listing, deep}
 use Rattle.meaning.specs.Answers.{_at_when_, cameTo, refusedWith, counts, firstHolding, settle}
 use Rattle.meaning.specs.Tests.{wrongCount, checkRows}
@@ -115,6 +115,19 @@ strings-first = refl
 one-to-the-left : siblingAt T 4 (negsuc 0) ≡ 3
 unfolding siblingAt
 one-to-the-left = refl
+
+-- the root has no rank, and is an only child all the same: itself 0 places away, and none next
+root-unranked : rankOf T 1 ≡ 0
+unfolding rankOf
+root-unranked = refl
+
+root-itself : siblingAt T 1 (pos 0) ≡ 1
+unfolding siblingAt
+root-itself = refl
+
+none-beside-the-root : siblingAt T 1 (pos 1) ≡ 0
+unfolding siblingAt
+none-beside-the-root = refl
 
 -- the metres of node 7 of T, asked where there are none, and where there are
 metres-asked : List Question

@@ -1,5 +1,5 @@
--- Questions and their answers, from the lists of children and siblings (document 01, "Questions"),
--- and from the metres (document 02, item 2). Number 0 is no node.
+-- Questions and their answers, from the lists of children and siblings (document 01, "Questions";
+-- the rank of the root: document 02, item 3), and from the metres (item 2). Number 0 is no node.
 use mathlib.Core.Bool.{Bool, true, false, cond, _&&_}
 use mathlib.Core.List.{List, [], _∷_, _++_, map}
 use mathlib.Core.Option.{Option, none, some}
@@ -29,10 +29,16 @@ unfoldable pub siblingsOf : List ℕ → ℕ → List ℕ
 unfolding childrenOf
 siblingsOf ps x = childrenOf ps (entry ps x)
 
--- a node's place among its siblings, from 1: how many of the nodes up to x have x's parent
+-- a node's place among its siblings, from 1: how many of the nodes up to x have x's parent; the
+-- root's is 1, since it is an only child
 unfoldable pub placeOf : List ℕ → ℕ → ℕ
 unfolding childrenOf
 placeOf ps x = length (childrenOf (take x ps) (entry ps x))
+
+-- a node's rank is that place; the root, node 1, has none
+unfoldable pub rankOf : List ℕ → ℕ → ℕ
+unfolding placeOf
+rankOf ps x = cond (eqb x 1) 0 (placeOf ps x)
 
 -- ---- The ten kinds that ask the tree.
 
@@ -66,14 +72,14 @@ siblingAt ps x (negsuc a) = entry (siblingsOf ps x) (placeOf ps x - suc a)
 
 -- the answer about node x, with argument z
 unfoldable pub answer : List ℕ → Ask → ℕ → ℤ → ℕ
-unfolding childrenOf childAt siblingAt placeOf
+unfolding childrenOf childAt siblingAt rankOf
 answer ps parent x z = entry ps x
 answer ps firstChild x z = entry (childrenOf ps x) 1
 answer ps lastChild x z = entry (childrenOf ps x) (length (childrenOf ps x))
 answer ps nextSibling x z = siblingAt ps x (pos 1)
 answer ps previousSibling x z = siblingAt ps x (negsuc 0)
 answer ps degree x z = length (childrenOf ps x)
-answer ps rank x z = placeOf ps x
+answer ps rank x z = rankOf ps x
 answer ps child x z = childAt ps x z
 answer ps leaf x z = isNone (length (childrenOf ps x))
 answer ps sibling x z = siblingAt ps x z

@@ -5,6 +5,7 @@ use mathlib.Core.List.{List}
 use Prim.Native.Nat.{ℕ, zero, suc, _+_, _-_, _≤_, _<_}
 use native.Mathlib.Omega.{arith}
 use borrow.Author.Tests.{lt-ltb, le-ltb}
+use lib.Dec.{ltb}
 use lib.IntN.{ℤ, pos, negsuc}
 use Rattle.meaning.specs.Strings.{Bit, ones}
 use Rattle.meaning.specs.Bytes.{value}
@@ -63,6 +64,13 @@ module _ {bytes : List ℕ} {i : Layout} {x : ℕ} (node : IsNode bytes i x) whe
   abbrev Answers : Ask → ℤ → ℕ → Type 0
   Answers ask z y = y ≡ answer (parentsIn bytes) ask x z
 
+  -- what the strings give where the root is set apart: 0 for the root, and else y
+  at-root : x ≡ 1 → (y : ℕ) → 0 ≡ cond (ltb 1 x) y 0
+  at-root e y = sym (ap (λ b. cond b y 0) (le-ltb 1 x (omega arith)))
+
+  past-root : 1 < x → (y : ℕ) → y ≡ cond (ltb 1 x) y 0
+  past-root l y = sym (ap (λ b. cond b y 0) (lt-ltb 1 x l))
+
   -- ---- the next one and the one before
 
   module _ (bit : ℕ) (read : bit ≡ value (bitOf r1 x)) where
@@ -76,12 +84,12 @@ module _ {bytes : List ℕ} {i : Layout} {x : ℕ} (node : IsNode bytes i x) whe
 
   pub previous-first : x ≡ 1 → Answers previousSibling (pos 0) 0
   unfolding byStrings
-  previous-first e = given node previousSibling (pos 0) 0 (sym (ap (λ b. cond b (whereZero (bitOf r1 (x - 1)) (x - 1) 0) 0) (le-ltb 1 x (omega arith))))
+  previous-first e = given node previousSibling (pos 0) 0 (at-root e (whereZero (bitOf r1 (x - 1)) (x - 1) 0))
 
   module _ (later : 1 < x) (bit : ℕ) (read : bit ≡ value (bitOf r1 (x - 1))) where
     previous-given : (y : ℕ) → y ≡ whereZero (bitOf r1 (x - 1)) (x - 1) 0 → Answers previousSibling (pos 0) y
     unfolding byStrings
-    previous-given y e = given node previousSibling (pos 0) y (e ∙ sym (ap (λ b. cond b (whereZero (bitOf r1 (x - 1)) (x - 1) 0) 0) (lt-ltb 1 x later)))
+    previous-given y e = given node previousSibling (pos 0) y (e ∙ past-root later (whereZero (bitOf r1 (x - 1)) (x - 1) 0))
 
     pub previous-none : (bit ≡ 0 → ⊥) → Answers previousSibling (pos 0) 0
     previous-none n = previous-given 0 (ap (λ v. whereZero v (x - 1) 0) (sym (is-I (bitOf r1 (x - 1)) bit read n)))
@@ -105,13 +113,18 @@ module _ {bytes : List ℕ} {i : Layout} {x : ℕ} (node : IsNode bytes i x) whe
   start-is : start ≡ onesBeforeBy r1 r0 (parentOf r1 r0 x)
   start-is = sym (siblings-low r1 r0 x siblings-there)
 
+  pub rank-root : x ≡ 1 → Answers rank (pos 0) 0
+  unfolding byStrings
+  rank-root e = given node rank (pos 0) 0 (at-root e (x - onesBeforeBy r1 r0 (parentOf r1 r0 x)))
+
   module _ (low : ℕ) (from : low ≡ start) where
     pub rank-above : low < x
     rank-above = omega (arith, left-before r1 x (node .some))
 
-    pub rank-given : Answers rank (pos 0) (x - low)
+    pub rank-given : 1 < x → Answers rank (pos 0) (x - low)
     unfolding byStrings
-    rank-given = given node rank (pos 0) (x - low) (ap (λ n. x - n) (from ∙ start-is))
+    rank-given later =
+        given node rank (pos 0) (x - low) (ap (λ n. x - n) (from ∙ start-is) ∙ past-root later (x - onesBeforeBy r1 r0 (parentOf r1 r0 x)))
 
   module _ (y : ℕ) (z : ℤ) (place : y ≡ moved x z) where
     sibling-given : (v : ℕ) → v ≡ within start end y → Answers sibling z v

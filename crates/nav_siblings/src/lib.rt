@@ -37,11 +37,14 @@ pub fn previous_sibling(b: &[u8], image: Layout, x: usize) -> u32
     x as u32 - 1
 }
 
-// The place of node x among its siblings, from 1.
+// The rank of node x: its place among its siblings, from 1, and 0 for the root.
 pub fn child_rank(b: &[u8], image: Layout, x: usize) -> u32
     requires { ⌜ IsNode (now b) image x ⌝ }
     ensures { λ r. ⌜ r ≡ answer (parentsIn (now (b .entry))) rank x (pos 0) ⌝ }
 {
+    if x == 1 { // the root
+        return 0; // has no rank
+    }
     (x - run_before(b, image, x)) as u32
 }
 

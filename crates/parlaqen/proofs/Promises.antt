@@ -17,6 +17,7 @@ use Rattle.string_promises.proofs.Promises as Strings
 use Rattle.pack_promises.proofs.Promises as Packs
 use Rattle.image_promises.proofs.Promises as Images
 use Rattle.image_promises.proofs.NoMetres as NoMetres
+use Rattle.image_promises.proofs.Root as Root
 use Rattle.image_promises.proofs.Faults as Faults
 use Rattle.image_promises.proofs.FaultyBlocks as Blocks
 use Rattle.outline_page.proofs.Promises as Outline
@@ -166,6 +167,11 @@ kept = record {
   own-parent = Theory.own-parent;
   own-answer = Theory.own-answers;
   asked-of-content = Images.asked-of-content;
+  root-has-no-rank = Theory.root-has-no-rank;
+  others-keep-their-rank = Theory.others-keep-their-rank;
+  root-asked = Root.root-asked;
+  root-stays-alone = Theory.root-stays-alone;
+  root-asked-alone = Root.root-asked-alone;
   asked-exactly = Images.asked-exactly;
   allowed-exactly = Images.allowed-exactly;
   own-listing = Theory.own-listing;

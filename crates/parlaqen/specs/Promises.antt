@@ -179,6 +179,13 @@ pub record Promises : Type 1 where
   pub own-parent : Theory.OwnParent
   pub own-answer : Theory.OwnAnswer
   pub asked-of-content : Images.AskedOfContent
+  -- document 02, item 3: kind 7 on the root answers 0, and every other node keeps its rank
+  pub root-has-no-rank : Theory.RootHasNoRank
+  pub others-keep-their-rank : Theory.OthersKeepTheirRank
+  pub root-asked : Images.RootAsked
+  -- kinds 4, 5 and 10 keep their answers
+  pub root-stays-alone : Theory.RootStaysAlone
+  pub root-asked-alone : Images.RootAskedAlone
   -- questions are answered exactly if a tree's image is asked, in threes, 256 at most, and kind,
   -- node and argument of each are allowed
   pub asked-exactly : Images.AskedExactly

@@ -2,16 +2,17 @@
 use mathlib.Core.Path.{_≡_, refl, sym, ap, ap₂, _∙_, subst}
 use mathlib.Core.List.{List, [], _∷_, append-nil}
 use mathlib.Core.Logic.{_↔_, _⊎_, inl, inr}
-use Prim.Native.Nat.{zero, suc, _+_, _-_, _≤_}
+use Prim.Native.Nat.{ℕ, zero, suc, _+_, _-_, _≤_}
 use native.Mathlib.Numerals.{add-one}
 use native.Mathlib.Omega.{arith}
+use lib.IntN.{ℤ, pos, negsuc}
 use lib.ListN.{length, getD}
 use Rattle.meaning.specs.Trees.{Tree, nodes}
 use Rattle.meaning.specs.Parents.{parents, entry, IsParents, Lowest, badEntry}
 use Rattle.meaning.specs.Strings.{R1, O, I, lbs, strings, R0, parentsOf}
 use Rattle.meaning.specs.Scan.{one, many, Small, Good, place}
 use Rattle.meaning.specs.Packs.{sizes}
-use Rattle.meaning.specs.Questions.{childrenOf, siblingsOf}
+use Rattle.meaning.specs.Questions.{rank, child, sibling, childrenOf, siblingsOf, placeOf, answer}
 use Rattle.theory.specs.Changes.{changed}
 use Rattle.theory.specs.Rank.{onesBefore}
 use Rattle.meaning.specs.Blocks.{blocksIn}
@@ -26,10 +27,10 @@ use Rattle.theory.proofs.Lowest.{badEntry-is, no-bad, parents-badEntry}
 use Rattle.theory.proofs.Scan.{nodes-ones, place-good, good-place, place-is, place-unique, not-before}
 use Rattle.theory.proofs.Odd.{tree-counts, never-odd}
 use Rattle.theory.proofs.Navigate.{children-are, counted, parents-bits, parent-is, ones-before-is}
-use Rattle.theory.proofs.Answers.{leaf-is, next-is}
+use Rattle.theory.proofs.Answers.{root-rank, other-rank, child-there, leaf-is, next-is}
 use Rattle.theory.proofs.Forms.{length-parents, length-R1, length-R0, string-parents, string-parts, parts-injective, marks-count, marks-same}
-use Rattle.theory.proofs.Addresses.{children-nodes, is-child, number-unique}
-use Rattle.theory.proofs.OwnAnswers.{own-answer}
+use Rattle.theory.proofs.Addresses.{lo-step, degree-at, children-nodes, is-child, number-unique}
+use Rattle.theory.proofs.OwnAnswers.{root-sibling, own-answer}
 use Rattle.theory.proofs.Depths.{not-deep, deep-none, listing-whole, first-deep}
 use Rattle.theory.proofs.ByStrings.{answers-by-strings}
 use Rattle.theory.proofs.Payloads.{sample-at}
@@ -157,6 +158,42 @@ own-parent t x g h =
 
 pub own-answers : P.OwnAnswer
 own-answers t kind x g h z = own-answer t kind x g h z
+
+pub root-has-no-rank : P.RootHasNoRank
+unfolding answer
+root-has-no-rank t x g h = (λ e. root-only x g h e, λ e. ap (λ y. answer (parents t) rank y (pos 0)) e ∙ root-rank (parents t))
+  where
+    root-only : (y : ℕ) → 1 ≤ y → y ≤ nodes t → answer (parents t) rank y (pos 0) ≡ 0 → y ≡ 1
+    root-only zero g h e = absurd (omega arith)
+    root-only (suc zero) g h e = refl
+    root-only (suc (suc k)) g h e =
+        let two : 2 ≤ suc (suc k) = omega arith in
+        absurd (omega (arith, other-rank (parents t) (suc (suc k)) two, is-child t (suc (suc k)) two h .some))
+
+pub others-keep-their-rank : P.OthersKeepTheirRank
+unfolding answer
+others-keep-their-rank t x g h =
+    let p = entry (parents t) x in
+    let c = is-child t x g h in
+    let same = other-rank (parents t) x g in
+    let m : p ≤ nodes t = omega (arith, c .before) in
+    let place = placeOf (parents t) x in (
+      same,
+      omega (arith, c .some),
+      omega (arith, c .room, degree-at t p (c .from) m),
+      ap (λ k. answer (parents t) child p (pos k)) same
+          ∙ child-there t p place (c .some) (omega (arith, lo-step t p (c .from) m, c .room))
+          ∙ c .place,
+    )
+
+pub root-stays-alone : P.RootStaysAlone
+unfolding answer
+root-stays-alone t = (root-sibling t (pos 1), root-sibling t (negsuc 0), root-sibling t (pos 0), elsewhere)
+  where
+    elsewhere : (z : ℤ) → (z ≡ pos 0 → ⊥) → answer (parents t) sibling 1 z ≡ 0
+    elsewhere (pos zero) other = absurd (other refl)
+    elsewhere (pos (suc k)) other = root-sibling t (pos (suc k))
+    elsewhere (negsuc k) other = root-sibling t (negsuc k)
 
 pub own-listing : P.OwnListing
 own-listing t x g h = ((λ e. not-deep t x g h e, λ a. deep-none t x g h a), λ e. listing-whole t x g h e, λ n. first-deep t x g h n)

@@ -17,7 +17,7 @@ use Rattle.meaning.specs.Blocks.{blocksIn, wrongBlock}
 use Rattle.meaning.specs.Image.{Content, Measured, FitImage, imageOfString, image, parentsIn, metresIn, isImage, samples}
 use Rattle.meaning.specs.Scan.{Kind, one, many, Small, Place, place}
 use Rattle.meaning.specs.Packs.{startsOf, sizesOf, sizes, starts}
-use Rattle.meaning.specs.Questions.{Ask, childrenOf, siblingsOf, placeOf, siblingAt, answer}
+use Rattle.meaning.specs.Questions.{Ask, nextSibling, previousSibling, degree, rank, child, sibling, childrenOf, siblingsOf, placeOf, siblingAt, answer}
 use Rattle.meaning.specs.Listing.{listing, deep}
 use Rattle.meaning.specs.declared.Answer.{Answer}
 use Rattle.meaning.specs.Answers.{Row, settle}
@@ -158,6 +158,28 @@ OwnParent = (t : Tree) (x : ℕ) → 2 ≤ x → x ≤ nodes t
 abbrev pub OwnAnswer : Type 0
 OwnAnswer = (t : Tree) (kind : Ask) (x : ℕ) → 1 ≤ x → x ≤ nodes t → (z : ℤ)
     → Gives t kind (nodeAt t x .address) (nodeAt t x .below) z (answer (parents t) kind x z)
+
+-- document 02, item 3: kind 7 answers 0 for the root, and for no other node
+abbrev pub RootHasNoRank : Type 0
+RootHasNoRank = (t : Tree) (x : ℕ) → 1 ≤ x → x ≤ nodes t → (answer (parents t) rank x (pos 0) ≡ 0) ↔ (x ≡ 1)
+
+-- every other node keeps its rank, which is its place: it is child number k of the n children of
+-- its parent
+abbrev pub OthersKeepTheirRank : Type 0
+OthersKeepTheirRank = (t : Tree) (x : ℕ) → 2 ≤ x → x ≤ nodes t
+    → let p = entry (parents t) x in
+    let k = answer (parents t) rank x (pos 0) in
+    let n = answer (parents t) degree p (pos 0) in
+    (k ≡ placeOf (parents t) x) × (1 ≤ k) × (k ≤ n) × (answer (parents t) child p (pos k) ≡ x)
+
+-- kinds 4, 5 and 10 keep their answers for the root, an only child: none next to it or before it,
+-- itself 0 places away, and none at any other number of places
+abbrev pub RootStaysAlone : Type 0
+RootStaysAlone = (t : Tree)
+    → (answer (parents t) nextSibling 1 (pos 0) ≡ 0)
+    × (answer (parents t) previousSibling 1 (pos 0) ≡ 0)
+    × (answer (parents t) sibling 1 (pos 0) ≡ 1)
+    × ((z : ℤ) → (z ≡ pos 0 → ⊥) → answer (parents t) sibling 1 z ≡ 0)
 
 -- the listing is the depth-first order of everything below x, with depths, if no node below it is
 -- at depth 64

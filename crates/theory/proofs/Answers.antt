@@ -1,20 +1,32 @@
 -- Every answer that is read off the parent list, from the strings: `lo` and `hi` are the ones
 -- before two zeros that follow each other.
 use mathlib.Core.Path.{_≡_, refl, sym, ap, ap₂, _∙_}
+use mathlib.Core.Bool.{cond}
+use mathlib.Core.List.{List}
 use mathlib.Core.Logic.{_↔_}
 use Prim.Native.Nat.{ℕ, zero, suc, _+_, _-_, _≤_, _<_}
 use native.Mathlib.Omega.{arith}
 use native.Mathlib.Decide.{decLt}
+use borrow.Author.Tests.{ne-eqb}
 use lib.IntN.{pos, negsuc}
 use lib.ListN.{length, getD}
 use Rattle.meaning.specs.Trees.{Tree}
 use Rattle.meaning.specs.Strings.{O, I, lbs, ones, R1, R0}
 use Rattle.meaning.specs.Parents.{parents, entry}
 use Rattle.theory.specs.Rank.{onesBefore, counting}
-use Rattle.meaning.specs.Questions.{childrenOf, placeOf, siblingAt, childAt}
+use Rattle.meaning.specs.Questions.{childrenOf, placeOf, rankOf, siblingAt, childAt}
 use Rattle.theory.proofs.Navigate.{children-are, is-placed, Placed, onesBefore-mono, leaf-mark}
 use Rattle.theory.proofs.Runs.{R0-bits}
 use Rattle.theory.proofs.Odd.{tree-counts}
+
+-- the root has no rank, and every other node's is its place
+pub root-rank : (ps : List ℕ) → rankOf ps 1 ≡ 0
+unfolding rankOf
+root-rank ps = refl
+
+pub other-rank : (ps : List ℕ) (x : ℕ) → 2 ≤ x → rankOf ps x ≡ placeOf ps x
+unfolding rankOf
+other-rank ps x h = ap (λ b. cond b 0 (placeOf ps x)) (ne-eqb x 1 (λ e. omega arith))
 
 counting-length : (i n : ℕ) → length (counting i n) ≡ n
 counting-length i zero = refl

@@ -21,7 +21,7 @@ use Rattle.theory.proofs.Parents.{parents-are}
 use Rattle.theory.proofs.Forms.{length-parents}
 use Rattle.theory.proofs.Odd.{tree-counts}
 use Rattle.theory.proofs.Navigate.{onesBefore-zero, onesBefore-mono, parent-is, ones-before-is}
-use Rattle.theory.proofs.Answers.{lo, degree-is, child-there, child-none, placed, place-is, right-there, right-none, left-there, left-none, leaf-is}
+use Rattle.theory.proofs.Answers.{root-rank, other-rank, lo, degree-is, child-there, child-none, placed, place-is, right-there, right-none, left-there, left-none, leaf-is}
 
 -- ---- a number within bounds
 
@@ -221,7 +221,14 @@ answers-by-strings t previousSibling (suc (suc y)) g h z =
     ∙ ap (λ w. whereZero (getD (R1 (lbs t)) (w - 1) I) w 0) (let e : suc y ≡ x - 1 = omega arith in e)
     ∙ ap (λ b. cond b (whereZero (getD (R1 (lbs t)) (x - 1 - 1) I) (x - 1) 0) 0) (sym (lt-ltb 1 x (omega arith)))
 answers-by-strings t degree x g h z = degree-is t x ∙ ap₂ _-_ (sym (after-own t x g h)) (sym (before-own t x g h))
-answers-by-strings t rank x g h z = place-is t x g (there t x g h) ∙ ap (λ n. x - n) (sym (before-parent t x g h))
+answers-by-strings t rank zero g h z = absurd (omega arith)
+answers-by-strings t rank (suc zero) g h z = root-rank (parents t)
+answers-by-strings t rank (suc (suc y)) g h z =
+    let x = suc (suc y) in
+    other-rank (parents t) x (omega arith)
+    ∙ place-is t x g (there t x g h)
+    ∙ ap (λ n. x - n) (sym (before-parent t x g h))
+    ∙ ap (λ b. cond b (x - given t (givenParent t x)) 0) (sym (lt-ltb 1 x (omega arith)))
 answers-by-strings t child x g h z = child-by t x g h z
 answers-by-strings t leaf x g h z = leaf-by t x g h
 answers-by-strings t sibling x g h z = sibling-by t x g h z

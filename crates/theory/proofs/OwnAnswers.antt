@@ -10,11 +10,12 @@ use lib.ListN.{length}
 use Rattle.meaning.specs.Trees.{Tree, degreeOf, nodes, degrees}
 use Rattle.meaning.specs.Strings.{Bit, O, I, unary, lbs, ones}
 use Rattle.meaning.specs.Parents.{parents, entry}
-use Rattle.meaning.specs.Questions.{Ask, parent, firstChild, lastChild, nextSibling, previousSibling, degree, rank, child, leaf, sibling, isNone, childrenOf, placeOf, childAt, siblingAt, answer}
+use Rattle.meaning.specs.Questions.{Ask, parent, firstChild, lastChild, nextSibling, previousSibling, degree, rank, child, leaf, sibling}
+use Rattle.meaning.specs.Questions.{isNone, childrenOf, placeOf, rankOf, childAt, siblingAt, answer}
 use Rattle.theory.specs.Rank.{onesBefore}
 use Rattle.theory.specs.Walks.{root, nodeAt, Number, At, ChildAt, SiblingAt, Above, Ranks, Gives}
 use Rattle.theory.proofs.Navigate.{onesBefore-zero}
-use Rattle.theory.proofs.Answers.{lo, child-there, child-none, place-is, right-there, right-none, left-none}
+use Rattle.theory.proofs.Answers.{root-rank, other-rank, lo, child-there, child-none, right-there, right-none, left-none}
 use Rattle.theory.proofs.Scan.{nodes-ones}
 use Rattle.theory.proofs.Addresses.{child-address, first-node, lo-step, degree-at, child-node, is-child, address-step, number-unique, number-of, parent-number}
 
@@ -64,9 +65,6 @@ module _ (t : Tree) where
   unfolding parents
   first-parent = refl
 
-  lo-zero : lo t 0 ≡ 0
-  lo-zero = onesBefore-zero (lbs t)
-
   lo-one : lo t 1 ≡ 1
   unfolding lbs
   lo-one = ap suc (onesBefore-zero (unary (degrees t)))
@@ -75,13 +73,10 @@ module _ (t : Tree) where
   unfolding lbs
   some-ones = omega arith
 
-  root-sibling : (z : ℤ) → SiblingAt t [] z (siblingAt (parents t) 1 z)
+  pub root-sibling : (z : ℤ) → SiblingAt t [] z (siblingAt (parents t) 1 z)
   root-sibling (pos zero) = right-there t 1 (omega arith) some-ones 0 (omega (arith, ap (λ p. lo t (suc p)) first-parent, lo-one))
   root-sibling (pos (suc k)) = right-none t 1 (omega arith) some-ones (suc k) (omega (arith, ap (λ p. lo t (suc p)) first-parent, lo-one))
   root-sibling (negsuc k) = left-none t 1 (omega arith) some-ones k (omega arith)
-
-  root-rank : placeOf (parents t) 1 ≡ 1
-  root-rank = place-is t 1 (omega arith) some-ones ∙ omega (arith, ap (lo t) first-parent, lo-zero)
 
   -- ---- node x among its siblings
 
@@ -98,8 +93,8 @@ module _ (t : Tree) where
     own-parent : Above t (nodeAt t x .address) (entry (parents t) x)
     own-parent = by-address (λ a y. Above t a (entry (parents t) y)) x g h first-parent (λ m. parent-number t x m h _ _ (address-step t x m h))
 
-    own-rank : Ranks (nodeAt t x .address) (placeOf (parents t) x)
-    own-rank = by-address (λ a y. Ranks a (placeOf (parents t) y)) x g h root-rank (λ m. refl)
+    own-rank : Ranks (nodeAt t x .address) (rankOf (parents t) x)
+    own-rank = by-address (λ a y. Ranks a (rankOf (parents t) y)) x g h (root-rank (parents t)) (λ m. other-rank (parents t) x m)
 
     under-parent : 2 ≤ x → (z : ℤ) → SiblingAt t (placeOf (parents t) x ∷ nodeAt t (entry (parents t) x) .address) z (siblingAt (parents t) x z)
     unfolding siblingAt

@@ -51,7 +51,7 @@ module _ (r1 r0 : List Bit) where
   byStrings nextSibling x z = whereZero (bitOf r1 x) (x + 1) 0
   byStrings previousSibling x z = cond (ltb 1 x) (whereZero (bitOf r1 (x - 1)) (x - 1) 0) 0
   byStrings degree x z = onesBeforeBy (suc x) - onesBeforeBy x
-  byStrings rank x z = x - onesBeforeBy (parentOf x)
+  byStrings rank x z = cond (ltb 1 x) (x - onesBeforeBy (parentOf x)) 0
   byStrings child x z = childBy x z
   byStrings leaf x z = whereZero (bitOf r0 x) 1 0
   byStrings sibling x z = siblingBy x z

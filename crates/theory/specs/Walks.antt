@@ -51,8 +51,9 @@ abbrev pub Above : Tree → List ℕ → ℕ → Type 0
 Above t [] r = r ≡ 0
 Above t (i ∷ p) r = Number t p r
 
+-- which child of its parent a node is; the root has no rank
 abbrev pub Ranks : List ℕ → ℕ → Type 0
-Ranks [] r = r ≡ 1
+Ranks [] r = r ≡ 0
 Ranks (i ∷ p) r = r ≡ i
 
 abbrev pub Gives : Tree → Ask → List ℕ → Tree → ℤ → ℕ → Type 0

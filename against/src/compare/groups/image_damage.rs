@@ -281,8 +281,19 @@ fn remove_first_ones(bits: &mut [bool], left: usize) {
     }
 }
 
-/// Blocks cut off, added, exchanged, said twice; bytes cut off and added; and sizes of all kinds with nothing in them.
+/// Sizes of all kinds with nothing in them; blocks cut off, added, exchanged, said twice; bytes cut off and added.
 pub fn moved_blocks(comparison: &mut Comparison, random: &mut Random) -> Result<(), Enough> {
+    for blocks in [0, 1, 4, 5, 6, 53, 54, 96, 97, MOST_BLOCKS - 1, MOST_BLOCKS, MOST_BLOCKS + 1] {
+        for more in [-1, 0, 1, 256] {
+            let length = (blocks * BLOCK_BYTES).saturating_add_signed(more);
+            for filled in [vec![0; length], random.bytes(length)] {
+                let mut image = filled;
+                readings(comparison, random, &image, 7)?;
+                seal(&mut image);
+                readings(comparison, random, &image, 7)?;
+            }
+        }
+    }
     for _ in 0..3_000 {
         let forms = tree_to_damage(random);
         let mut image = move_blocks(random, &forms.image);
@@ -295,17 +306,6 @@ pub fn moved_blocks(comparison: &mut Comparison, random: &mut Random) -> Result<
             *word_at(&mut image, 0, 3) = blocks.to_le_bytes();
             seal(&mut image);
             check_and_one_reading(comparison, random, &image, forms.node_count())?;
-        }
-    }
-    for blocks in [0, 1, 4, 5, 6, 53, 54, 96, 97, MOST_BLOCKS - 1, MOST_BLOCKS, MOST_BLOCKS + 1] {
-        for more in [-1, 0, 1, 256] {
-            let length = (blocks * BLOCK_BYTES).saturating_add_signed(more);
-            for filled in [vec![0; length], random.bytes(length)] {
-                let mut image = filled;
-                readings(comparison, random, &image, 7)?;
-                seal(&mut image);
-                readings(comparison, random, &image, 7)?;
-            }
         }
     }
     Ok(())

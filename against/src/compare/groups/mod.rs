@@ -37,6 +37,7 @@ const fn drawn(name: &'static str, run: fn(&mut Comparison, &mut Random) -> Resu
 pub const GROUPS: &[Group] = &[
     fixed("the twelve cases", the_twelve_cases),
     fixed("T with metres", t_with_metres),
+    fixed("the root of T", the_root_of_t),
     fixed("unreadable pages, every call", pages_and_rooms::every_call_at_pages),
     fixed("empty lists", pages_and_rooms::empty_lists),
     fixed("every room up to two too many", pages_and_rooms::every_room),
@@ -45,6 +46,7 @@ pub const GROUPS: &[Group] = &[
     fixed("every tree up to 7 nodes", every_small::trees),
     fixed("every R1 and R0 up to 6 nodes", every_small::partitioned_strings),
     fixed("lists of metres", metres::lists_of_metres),
+    fixed("the root of trees of every size", questions_and_listings::the_root),
     drawn("trees of every shape", limits::trees_of_every_shape),
     drawn("parent lists with bad entries", parent_lists::bad_entries),
     drawn("questions", questions_and_listings::questions),
@@ -72,6 +74,11 @@ fn the_twelve_cases(comparison: &mut Comparison, _: &mut Random) -> Result<(), E
 /// The same for the tree of these cases with metres.
 fn t_with_metres(comparison: &mut Comparison, _: &mut Random) -> Result<(), Enough> {
     expected(comparison, twelve_cases::with_metres())
+}
+
+/// What is asked about its root, which has no rank.
+fn the_root_of_t(comparison: &mut Comparison, _: &mut Random) -> Result<(), Enough> {
+    expected(comparison, twelve_cases::of_the_root())
 }
 
 fn expected(comparison: &mut Comparison, cases: Vec<Case>) -> Result<(), Enough> {

@@ -1,10 +1,12 @@
-//! Questions of every kind, and listings from every node.
+//! Questions of every kind, about the root by themselves too, and listings from every node.
 
-use super::forms::{allowed_question, allowed_questions, arguments, room_near, small_size, Forms};
+use super::forms::{
+    allowed_question, allowed_questions, arguments, kinds, room_near, small_size, takes_argument, Forms,
+};
 use crate::compare::call::Call;
 use crate::compare::comparison::{Comparison, Enough};
 use crate::compare::random::Random;
-use crate::compare::shapes::Shape;
+use crate::compare::shapes::{parent_list, Shape};
 use crate::model::answers::number;
 
 /// Lists of up to 258 questions to trees of all shapes, good and odd ones, in threes and not.
@@ -55,6 +57,32 @@ fn odd_question(random: &mut Random, n: usize, measured: bool) -> [i32; 3] {
         _ => argument = random.pick(&arguments(n)),
     }
     [kind, node, argument]
+}
+
+/// One node, a few, as many as a block of metres or bits has, and the most.
+const SIZES: [usize; 13] = [1, 2, 3, 7, 64, 65, 126, 127, 3_999, 4_000, 4_001, 65_534, 65_535];
+
+/// Every kind about the root of a path, a star and another tree, with every argument that it allows, and the ranks of
+/// its first children and of the last nodes.
+pub fn the_root(comparison: &mut Comparison, random: &mut Random) -> Result<(), Enough> {
+    for n in SIZES {
+        for shape in [Shape::Path, Shape::Star, Shape::Even] {
+            let parents = parent_list(shape, n, random);
+            for forms in Forms::of_both_versions(random, &parents) {
+                let mut questions = Vec::new();
+                for kind in kinds(forms.metres.is_some()) {
+                    let arguments = arguments(n);
+                    let allowed = if takes_argument(kind) { &arguments } else { &arguments[..1] };
+                    questions.extend(allowed.iter().flat_map(|&argument| [kind, 1, argument]));
+                }
+                let (first, last) = (2..=n.min(5), n.saturating_sub(5).max(1)..=n);
+                questions.extend(first.chain(last).flat_map(|node| [7, node as i32, 0]));
+                let answers = random.words(questions.len() / 3 + 1);
+                comparison.compare(Call::Ask { image: forms.image, questions, answers })?;
+            }
+        }
+    }
+    Ok(())
 }
 
 /// Trees around depth 64 from all kinds of nodes, and trees of every shape.
