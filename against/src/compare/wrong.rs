@@ -678,58 +678,46 @@ pub const WRONG: &[Wrong] = &[
         name: "ask-finds-no-last-sibling",
         what: "plq_ask answers kind 4 with 0 where the next sibling is the last",
         spoil: |_, after, answer| {
-            if let (0, Call::Ask { image, questions, answers }) = (answer.code, after) {
-                let tree = candidate(image).expect("accepted");
-                for (question, answer) in questions.chunks(3).zip(answers) {
-                    let last = *tree.siblings(question[1] as usize).last().expect("itself");
-                    if question[0] == 4 && *answer == number(last) {
-                        *answer = 0;
-                    }
+            answer_otherwise(after, answer, |tree, question, answer| {
+                let last = *tree.siblings(question[1] as usize).last().expect("itself");
+                if question[0] == 4 && *answer == number(last) {
+                    *answer = 0;
                 }
-            }
+            });
         },
     },
     Wrong {
         name: "ask-root-has-rank",
         what: "plq_ask answers kind 7 with 1 for the root",
         spoil: |_, after, answer| {
-            if let (0, Call::Ask { questions, answers, .. }) = (answer.code, after) {
-                for (question, answer) in questions.chunks(3).zip(answers) {
-                    if let [7, 1, _] = question {
-                        *answer = 1;
-                    }
+            answer_otherwise(after, answer, |_, question, answer| {
+                if let [7, 1, _] = question {
+                    *answer = 1;
                 }
-            }
+            });
         },
     },
     Wrong {
         name: "ask-counts-siblings-from-rank",
         what: "plq_ask answers kinds 4, 5 and 10 for the root as if it had place 0 among its siblings",
         spoil: |_, after, answer| {
-            if let (0, Call::Ask { questions, answers, .. }) = (answer.code, after) {
-                for (question, answer) in questions.chunks(3).zip(answers) {
-                    match question {
-                        [4, 1, _] => *answer = 1,
-                        [5, 1, _] => *answer = 0,
-                        [10, 1, places] => *answer = u32::from(*places == 1),
-                        _ => {}
-                    }
-                }
-            }
+            answer_otherwise(after, answer, |_, question, answer| match question {
+                [4, 1, _] => *answer = 1,
+                [5, 1, _] => *answer = 0,
+                [10, 1, places] => *answer = u32::from(*places == 1),
+                _ => {}
+            });
         },
     },
     Wrong {
         name: "ask-only-child-has-no-rank",
         what: "plq_ask answers kind 7 with 0 for every only child",
         spoil: |_, after, answer| {
-            if let (0, Call::Ask { image, questions, answers }) = (answer.code, after) {
-                let tree = candidate(image).expect("accepted");
-                for (question, answer) in questions.chunks(3).zip(answers) {
-                    if question[0] == 7 && tree.siblings(question[1] as usize).len() == 1 {
-                        *answer = 0;
-                    }
+            answer_otherwise(after, answer, |tree, question, answer| {
+                if question[0] == 7 && tree.siblings(question[1] as usize).len() == 1 {
+                    *answer = 0;
                 }
-            }
+            });
         },
     },
     Wrong {
@@ -964,6 +952,15 @@ fn seal_otherwise(call: &mut Call, answer: &Answer, change: fn(&mut [u8], &Layou
 fn read_otherwise(call: &mut Call, answer: &Answer, change: fn(&[u8], &mut [u32])) {
     let (0, Call::MetresOfImage { image, metres }) = (answer.code, call) else { return };
     change(image, &mut metres[..answer.first as usize]);
+}
+
+/// Questions that are answered, some of them otherwise: `change` gets the tree, a question and its answer.
+fn answer_otherwise(call: &mut Call, answer: &Answer, change: fn(&Tree, &[i32], &mut u32)) {
+    let (0, Call::Ask { image, questions, answers }) = (answer.code, call) else { return };
+    let tree = candidate(image).expect("accepted");
+    for (question, answer) in questions.chunks(3).zip(answers) {
+        change(&tree, question, answer);
+    }
 }
 
 /// Questions that are refused, taken for others.
