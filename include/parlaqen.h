@@ -70,7 +70,8 @@ enum plq_code {
     PLQ_NO_ROOM = 1         /* an output has too little room; place 0 */
 };
 
-/* The first number of a question. Of the answers, 0 for a node means that there is none; 0 metres are a number. */
+/* The first number of a question. Of the answers, 0 for a node or a rank means that there is none; a degree or metres
+ * of 0 are a number. */
 enum plq_kind {
     PLQ_PARENT = 1,
     PLQ_FIRST_CHILD = 2,

@@ -56,9 +56,9 @@ impl Screen {
     fn place(&self) -> Result<Vec<u32>> {
         let mut path = Vec::new();
         let mut node = self.at;
-        while let (Some(rank), Some(parent)) = (self.diary.child_rank(node)?, self.diary.parent(node)?) {
+        while let Some(rank) = self.diary.child_rank(node)? {
             path.push(rank);
-            node = parent;
+            node = self.diary.parent(node)?.unwrap_or(Node::ROOT);
         }
         path.reverse();
         Ok(path)
