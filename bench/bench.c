@@ -7,7 +7,7 @@
  *                                                before, CALL as name_of_call names it
  *
  * Made with WITH_BEFORE it holds an earlier archive of the library too, with `before_` for `plq_` in the names of its calls; with
- * BEFORE_HAS_METRES that one has the two calls about metres.
+ * BEFORE_HAS_METRES that one has the two calls about metres, with BEFORE_HAS_TEXT the two about text.
  *
  * Other work on the machine moves a time by far more than the differences looked for. So the contestants take turns in
  * short samples, a ratio is always one of two samples of the same round, and the table has the median of these ratios,
@@ -53,17 +53,27 @@ BEFORE(metres_of_image);
 #define before_image_with_metres NULL
 #define before_metres_of_image NULL
 #endif
+#ifdef BEFORE_HAS_TEXT
+BEFORE(parents_of_text);
+BEFORE(text_of_parents);
+#else
+#define before_parents_of_text NULL
+#define before_text_of_parents NULL
+#endif
 static const struct store before = {"the archive before", CALLS_OF(before_)};
 #endif
 
 /* ---- what is measured ---- */
 
 /* Of each shape and size several trees are taken in turn: the processor would learn the branches of a single one by heart,
- * and with it what no reader of a new image has. */
+ * and with it what no reader of a new image has. Of the last one only the calls about text are timed: with one line a node it
+ * is nearly the longest text that there may be, and that of a larger deep60 would be longer. */
 static const struct kind {
     enum shape shape;
     uint32_t n, turns;
-} kinds[] = {{RANDOM, 65535, 4}, {DIARY, 65535, 4}, {DEEP60, 65535, 4}, {SPINE, 65535, 4}, {RANDOM, 4000, 32}, {DIARY, 4000, 32}};
+    int for_text_alone;
+} kinds[] = {{RANDOM, 65535, 4, 0}, {DIARY, 65535, 4, 0}, {DEEP60, 65535, 4, 0}, {SPINE, 65535, 4, 0},
+             {RANDOM, 4000, 32, 0}, {DIARY, 4000, 32, 0}, {DEEP60, 16000, 8, 1}};
 
 enum { KINDS = sizeof kinds / sizeof *kinds };
 
@@ -78,7 +88,8 @@ enum beside {
 };
 
 #define ON_ALL(target) {target, target, target, target, target, target}
-_Static_assert(KINDS == 6, "ON_ALL has a target for each of them");
+#define ON_TEXTS(target) {0, target, target, 0, 0, target, target}
+_Static_assert(KINDS == 7, "ON_ALL has a target for each of them that is not for text alone, ON_TEXTS for those with a text");
 
 static const struct row {
     const char *name;
@@ -103,6 +114,9 @@ static const struct row {
     {"`plq_split`, 256 trees", SPLIT, ON_ALL(1.5), 0, 0, NOTHING},
     {"`plq_join`, tree 256", JOIN, ON_ALL(1.5), 0, 0, NOTHING},
     {"`plq_list`", LIST, ON_ALL(1.5), 0, 1, WALK},
+    {"`plq_parents_of_text`", PARENTS_OF_TEXT, ON_TEXTS(1.5), 0, 0, NOTHING},
+    {"`plq_parents_of_text`, one line a node", PARENTS_OF_LINES, ON_TEXTS(1.5), 0, 0, NOTHING},
+    {"`plq_text_of_parents`", TEXT_OF_PARENTS, ON_TEXTS(1.0), 0, 0, NOTHING},
 };
 
 enum { ROWS = sizeof rows / sizeof *rows };
@@ -147,8 +161,8 @@ struct tree {
     uint8_t string[PACK_BYTES], pack[PACK_BYTES], pack_to_join[PACK_BYTES];
     int32_t questions[LISTS][3 * PLQ_MOST_QUESTIONS], for_metres[LISTS][3 * PLQ_MOST_QUESTIONS];
     uint32_t *metres;
-    uint8_t *image_with_metres;
-    struct request requests[CALLS];
+    uint8_t *image_with_metres, *text, *lines;
+    struct request requests[CALLS]; /* where a call is not made of this tree, all zeros */
     uint32_t listed; /* nodes that the listing has */
     void *peers[CONTESTANTS];
 };
@@ -173,6 +187,12 @@ static void require(int fine, const char *what)
     if (fine) return;
     fprintf(stderr, "bench: %s\n", what);
     exit(1);
+}
+
+/* Is this call made of this tree? Of one that is too deep no text is. */
+static int has_request(const struct tree *tree, enum call call)
+{
+    return tree->requests[call].call == call;
 }
 
 static const uint8_t *image_for(const struct tree *tree, enum call call)
@@ -261,6 +281,24 @@ static void make_pack(struct tree *tree, enum shape shape, uint64_t seed)
                                              .trees = PLQ_MOST_TREES, .room = PLQ_MOST_TREES, .second_room = PLQ_MOST_TREES};
 }
 
+/* The text of the tree, if it is not too deep for one, as it is written and with one line a node,
+ * if that is not too long. */
+static void make_texts(struct tree *tree)
+{
+    uint32_t n = tree->n;
+    struct request *r = tree->requests, write = {.call = TEXT_OF_PARENTS, .parents = tree->parents, .n = n, .room = PLQ_TEXT_BYTES(n)};
+    tree->text = allocate(PLQ_TEXT_BYTES(n));
+    plq_answer text = make_call(&plain_o2, &write, &(struct lent){.bytes = tree->text});
+    if (text.code == PLQ_TOO_DEEP) return;
+    require(text.code == PLQ_DONE, "a text cannot be made");
+    r[TEXT_OF_PARENTS] = write;
+    r[PARENTS_OF_TEXT] = (struct request){.call = PARENTS_OF_TEXT, .bytes = tree->text, .nbytes = text.first, .room = n};
+
+    tree->lines = allocate(PLQ_MOST_TEXT);
+    size_t bytes = text_by_lines(tree->text, text.first, tree->lines, PLQ_MOST_TEXT);
+    if (bytes > 0) r[PARENTS_OF_LINES] = (struct request){.call = PARENTS_OF_LINES, .bytes = tree->lines, .nbytes = bytes, .room = n};
+}
+
 static struct tree *new_tree(const struct kind *kind, uint64_t seed, const struct lent *lent)
 {
     struct tree *tree = allocate(sizeof *tree);
@@ -291,6 +329,7 @@ static struct tree *new_tree(const struct kind *kind, uint64_t seed, const struc
     make_refused(tree, seed);
     make_questions(tree, seed);
     make_pack(tree, kind->shape, seed);
+    make_texts(tree);
     tree->listed = make_call(&plain_o2, &r[LIST], lent).first;
     for (size_t i = 0; i < CONTESTANTS; i++)
         if (contestants[i].peer != NULL) {
@@ -319,6 +358,8 @@ static void free_bed(struct bed *bed)
         free(bed->trees[t]->parents);
         free(bed->trees[t]->metres);
         free(bed->trees[t]->image_with_metres);
+        free(bed->trees[t]->text);
+        free(bed->trees[t]->lines);
         free(bed->trees[t]);
     }
     free(bed->lent.bytes);
@@ -356,6 +397,7 @@ static void compare_requests(struct comparison *comparison, const struct tree *t
 {
     for (enum call call = 0; call < CALLS; call++) {
         struct request request = tree->requests[call];
+        if (!has_request(tree, call)) continue;
         for (uint32_t list = 0; list < (is_ask(call) ? LISTS : 1); list++) {
             request.questions = questions_for(tree, call, list);
             compare_call(comparison, request);
@@ -561,6 +603,14 @@ static void print_both(double middle, double of_least, const struct row *row)
     printf(" |");
 }
 
+/* Is this row timed on the trees of this bed? */
+static int is_timed(const struct bed *bed, const struct row *row)
+{
+    for (uint32_t t = 0; t < bed->kind->turns; t++)
+        if (!has_request(bed->trees[t], row->call)) return 0;
+    return is_of_text(row->call) || !bed->kind->for_text_alone;
+}
+
 static void print_kind(const struct bed *bed, const char *row, const uint8_t *image)
 {
     printf("| %s | %s, %u nodes | %zu |", row, name_of_shape(bed->kind->shape), bed->kind->n, blocks_of(image));
@@ -577,14 +627,30 @@ static struct cost cost_of(const struct times *times)
                          median(times->ns[PLAIN_O2], times->rounds) - median(times->ns[FASTER_O2], times->rounds)};
 }
 
+/* The name of a row and, for a listing, how many nodes it has, for a text, how many bytes: in the
+ * mean of the trees. */
+static void name_of_row(const struct bed *bed, const struct row *row, char *name, size_t room)
+{
+    size_t nodes = 0, bytes = 0, turns = bed->kind->turns;
+    for (uint32_t t = 0; t < turns; t++) {
+        const struct request *request = &bed->trees[t]->requests[row->call];
+        nodes += bed->trees[t]->listed;
+        bytes += row->call == TEXT_OF_PARENTS ? request->room : request->nbytes;
+    }
+    if (row->call == LIST)
+        snprintf(name, room, "%s, %zu nodes", row->name, nodes / turns);
+    else if (is_of_text(row->call))
+        snprintf(name, room, "%s, %zu bytes", row->name, bytes / turns);
+    else
+        snprintf(name, room, "%s", row->name);
+}
+
 /* Answers whether a target was missed. */
 static int print_row(struct bed *bed, const struct row *row, struct times *times)
 {
     measure(bed, row, times);
-    char name[64];
-    uint32_t listed = 0;
-    for (uint32_t t = 0; t < bed->kind->turns; t++) listed += bed->trees[t]->listed;
-    snprintf(name, sizeof name, row->call == LIST ? "%s, %u nodes" : "%s", row->name, listed / bed->kind->turns);
+    char name[96];
+    name_of_row(bed, row, name, sizeof name);
     print_kind(bed, name, image_for(bed->trees[0], row->call));
     double library_least = least(times->ns[LIBRARY], times->rounds), ratio = ratio_of(times, LIBRARY, PLAIN_O2);
     double target = row->targets[bed->kind - kinds];
@@ -625,14 +691,17 @@ static void print_costs(const struct cost costs[ROWS][KINDS])
 {
     printf("\nWhat the named forms cost plain C: time of `%s` / time of `%s`, and in brackets the difference in µs.\n\n| call |",
            plain_o2.name, faster_o2.name);
-    for (size_t k = 0; k < KINDS; k++) printf(" %s, %u |", name_of_shape(kinds[k].shape), kinds[k].n);
+    for (size_t k = 0; k < KINDS; k++)
+        if (!kinds[k].for_text_alone) printf(" %s, %u |", name_of_shape(kinds[k].shape), kinds[k].n);
     printf("\n|---|");
-    for (size_t k = 0; k < KINDS; k++) printf("--:|");
+    for (size_t k = 0; k < KINDS; k++)
+        if (!kinds[k].for_text_alone) printf("--:|");
     printf("\n");
     for (size_t row = 0; row < ROWS; row++) {
         if (!rows[row].named_form) continue;
         printf("| %s |", rows[row].name);
-        for (size_t k = 0; k < KINDS; k++) printf(" %.2f (%+.2f) |", costs[row][k].ratio, costs[row][k].ns / 1000);
+        for (size_t k = 0; k < KINDS; k++)
+            if (!kinds[k].for_text_alone) printf(" %.2f (%+.2f) |", costs[row][k].ratio, costs[row][k].ns / 1000);
         printf("\n");
     }
 }
@@ -654,12 +723,13 @@ static void print_table(uint32_t rounds)
     printf("\n");
     for (size_t row = 0; row < ROWS; row++)
         for (size_t k = 0; k < KINDS; k++) {
+            if (!is_timed(beds[k], &rows[row])) continue;
             missed += print_row(beds[k], &rows[row], &times);
             targets += rows[row].targets[k] != 0;
             costs[row][k] = cost_of(&times);
         }
     for (size_t k = 0; k < KINDS; k++) {
-        print_space(beds[k]);
+        if (!kinds[k].for_text_alone) print_space(beds[k]);
         free_bed(beds[k]);
     }
     printf("\n%d of %d targets missed.\n", missed, targets);
@@ -692,6 +762,7 @@ static void repeat_call(const char *store, const char *call, const char *shape, 
         if (strcmp(name_of_shape(kinds[k].shape), shape) == 0 && kinds[k].n == strtoul(nodes, NULL, 10)) kind = &kinds[k];
     require(the_store != NULL && the_call != CALLS && kind != NULL && has_call(the_store, the_call), "no such store, call, or tree");
     struct bed *bed = new_bed(kind);
+    for (uint32_t t = 0; t < kind->turns; t++) require(has_request(bed->trees[t], the_call), "the call is not made of such a tree");
     call_store(bed, the_store, the_call, 3 * PLQ_MOST_QUESTIONS, (uint32_t)strtoul(times, NULL, 10));
     free_bed(bed);
 }

@@ -15,7 +15,10 @@ const char *name_of_call(enum call call)
                                              [METRES_OF_IMAGE] = "plq_metres_of_image",
                                              [SPLIT] = "plq_split",
                                              [JOIN] = "plq_join",
-                                             [LIST] = "plq_list"};
+                                             [LIST] = "plq_list",
+                                             [PARENTS_OF_TEXT] = "plq_parents_of_text",
+                                             [PARENTS_OF_LINES] = "plq_parents_of_text:lines",
+                                             [TEXT_OF_PARENTS] = "plq_text_of_parents"};
     return names[call];
 }
 
@@ -23,6 +26,7 @@ int has_call(const struct store *store, enum call call)
 {
     if (call == IMAGE_WITH_METRES) return store->image_with_metres != NULL;
     if (call == METRES_OF_IMAGE) return store->metres_of_image != NULL;
+    if (is_of_text(call)) return store->parents_of_text != NULL && store->text_of_parents != NULL;
     return 1;
 }
 
@@ -42,6 +46,9 @@ plq_answer make_call(const struct store *store, const struct request *r, const s
     case METRES_OF_IMAGE: return store->metres_of_image(r->bytes, r->nbytes, lent->numbers, r->room);
     case SPLIT: return store->split(r->bytes, r->nbytes, r->bits, r->trees, lent->numbers, r->room, lent->second, r->second_room);
     case JOIN: return store->join(lent->bytes, r->nbytes, r->bits, r->trees, r->parents, r->n);
+    case PARENTS_OF_TEXT:
+    case PARENTS_OF_LINES: return store->parents_of_text(r->bytes, r->nbytes, lent->numbers, r->room);
+    case TEXT_OF_PARENTS: return store->text_of_parents(r->parents, r->n, lent->bytes, r->room);
     default: return store->list(r->bytes, r->nbytes, r->node, lent->numbers, r->room);
     }
 }

@@ -5,7 +5,8 @@
 #include "store.h"
 
 /* Some are others once more, so that what is timed of them is kept apart: CHECK_METRES and ASK_METRES are CHECK_IMAGE and ASK
- * for an image with metres and questions for them, REFUSE_IMAGE is CHECK_IMAGE for an image that is to be refused. */
+ * for an image with metres and questions for them, REFUSE_IMAGE is CHECK_IMAGE for an image that is to be refused,
+ * PARENTS_OF_LINES is PARENTS_OF_TEXT for a text with blanks. */
 enum call {
     CHECK_IMAGE,
     CHECK_METRES,
@@ -21,6 +22,9 @@ enum call {
     SPLIT,
     JOIN,
     LIST,
+    PARENTS_OF_TEXT,
+    PARENTS_OF_LINES,
+    TEXT_OF_PARENTS,
     CALLS
 };
 
@@ -42,12 +46,18 @@ static inline int is_of_metres(enum call call)
     return call == CHECK_METRES || call == ASK_METRES || call == IMAGE_WITH_METRES || call == METRES_OF_IMAGE;
 }
 
+/* Is it about text? A tree may be too deep for one, or its text too long. */
+static inline int is_of_text(enum call call)
+{
+    return call == PARENTS_OF_TEXT || call == PARENTS_OF_LINES || call == TEXT_OF_PARENTS;
+}
+
 /* What a call is given; a call takes from it what parlaqen.h says it takes. */
 struct request {
     enum call call;
     const uint32_t *parents, *metres;
     size_t n, metres_count;
-    const uint8_t *bytes; /* an image, a string or a pack */
+    const uint8_t *bytes; /* an image, a string, a pack or a text */
     size_t nbytes, bits, trees;
     const int32_t *questions;
     size_t numbers;
@@ -57,7 +67,7 @@ struct request {
 
 /* What a call may write to. */
 struct lent {
-    uint8_t *bytes;    /* strings, images; for join the pack itself */
+    uint8_t *bytes;    /* strings, images, texts; for join the pack itself */
     uint32_t *numbers; /* parents, metres, answers, pairs, starts */
     uint32_t *second;  /* sizes */
 };

@@ -48,7 +48,8 @@ void end_comparison(struct comparison *c)
 
 static int writes_bytes(const struct request *r)
 {
-    return r->call == STRING_OF_PARENTS || r->call == IMAGE_OF_PARENTS || r->call == IMAGE_WITH_METRES || r->call == JOIN;
+    return r->call == STRING_OF_PARENTS || r->call == IMAGE_OF_PARENTS || r->call == IMAGE_WITH_METRES || r->call == JOIN
+        || r->call == TEXT_OF_PARENTS;
 }
 
 /* How many bytes of each lent list are looked at, those after the room included. */
@@ -410,6 +411,7 @@ static void compare_parents(struct comparison *c, const uint32_t *parents, uint3
         with_metres.metres_count = used == 0 || below(&c->chance, 2) == 0 ? used + 1 : below(&c->chance, 2) == 0 ? used - 1 : 0;
         compare_call(c, with_metres);
         compare_call(c, (struct request){.call = JOIN, .bytes = pack, .nbytes = nbytes, .bits = bits, .trees = trees, .parents = copy, .n = used});
+        compare_call(c, (struct request){.call = TEXT_OF_PARENTS, .parents = copy, .n = used, .room = PLQ_TEXT_BYTES(n)});
         copy[at] = before;
     }
     free(copy);
@@ -443,6 +445,112 @@ static void compare_questions(struct comparison *c, const uint8_t *image, size_t
         list.node = i < 3 ? i : i == 3 ? n + 1 : 1 + below(&c->chance, n);
         compare_call(c, list);
     }
+}
+
+size_t text_by_lines(const uint8_t *text, size_t nbytes, uint8_t *lines, size_t room)
+{
+    size_t filled = 0, open = 0;
+    for (size_t at = 0; at < nbytes; at++) {
+        if (text[at] == '(') {
+            size_t blanks = at == 0 ? 0 : 1 + 2 * open;
+            if (room - filled < blanks) return 0;
+            if (blanks > 0) lines[filled++] = '\n';
+            if (blanks > 0) memset(lines + filled, ' ', blanks - 1);
+            filled += blanks > 0 ? blanks - 1 : 0;
+        }
+        if (filled == room) return 0;
+        lines[filled++] = text[at];
+        open += text[at] == '(' ? 1 : -1;
+    }
+    return filled;
+}
+
+static void compare_reading(struct comparison *c, const uint8_t *text, size_t nbytes, uint32_t n)
+{
+    compare_call(c, (struct request){.call = PARENTS_OF_TEXT, .bytes = text, .nbytes = nbytes, .room = n});
+}
+
+/* The text with blanks by chance, as many as there is room for. */
+static size_t add_blanks(struct comparison *c, const uint8_t *text, size_t nbytes, uint8_t *copy, size_t room)
+{
+    size_t filled = 0;
+    for (size_t at = 0; at < nbytes; at++) {
+        for (uint32_t more = below(&c->chance, 4); more > 0 && room - filled > nbytes - at; more--)
+            copy[filled++] = (uint8_t)" \n\r"[below(&c->chance, 3)];
+        copy[filled++] = text[at];
+    }
+    return filled;
+}
+
+/* A text with something changed: one byte, a bracket more or less, a byte exchanged with the next
+ * one, some bytes cut off, or as many opened at one place as make it too deep. */
+static size_t damage_text(struct comparison *c, uint8_t *text, size_t nbytes, uint32_t kind)
+{
+    static const uint8_t others[] = {'(', ')', ' ', '\n', '\r', '\t', 0, 'x', 39, 42, 0xA8, 0xFF};
+    size_t at = below(&c->chance, (uint32_t)nbytes), levels = 1 + below(&c->chance, 70);
+    uint8_t byte = text[at];
+    switch (kind % 6) {
+    case 0: text[at] = others[below(&c->chance, sizeof others)]; return nbytes;
+    case 1: /* a bracket more */
+        memmove(text + at + 1, text + at, nbytes - at);
+        text[at] = (uint8_t)('(' + below(&c->chance, 2));
+        return nbytes + 1;
+    case 2: /* a byte less */
+        memmove(text + at, text + at + 1, nbytes - at - 1);
+        return nbytes - 1;
+    case 3:
+        if (at + 1 == nbytes) return nbytes - 1;
+        text[at] = text[at + 1];
+        text[at + 1] = byte;
+        return nbytes;
+    case 4: return at;
+    default: /* a path of so many more levels, and perhaps something wrong after it */
+        memmove(text + at + 2 * levels, text + at, nbytes - at);
+        memset(text + at, '(', levels);
+        memset(text + at + levels, ')', levels);
+        if (below(&c->chance, 4) == 0) text[nbytes + 2 * levels - 1] = others[below(&c->chance, sizeof others)];
+        return nbytes + 2 * levels;
+    }
+}
+
+/* The tree as text, written and read back, with blanks and without, and on damaged texts; where the
+ * tree is too deep for a text only that it is. */
+static void compare_texts(struct comparison *c, const uint32_t *parents, uint32_t n, uint32_t damages)
+{
+    enum { SPARE = 256 }; /* what a damage adds at most */
+    size_t room = PLQ_TEXT_BYTES(n), size = 0;
+    uint8_t *text = allocate(room), *copy = allocate(PLQ_MOST_TEXT + SPARE);
+    struct request write = {.call = TEXT_OF_PARENTS, .parents = parents, .n = n, .room = room};
+    compare_rooms(c, write);
+    if (make_call(c->stores[0], &write, &(struct lent){.bytes = text}).code == PLQ_DONE) {
+        compare_rooms(c, (struct request){.call = PARENTS_OF_TEXT, .bytes = text, .nbytes = room, .room = n});
+        size = text_by_lines(text, room, copy, PLQ_MOST_TEXT);
+        compare_reading(c, copy, size, n);
+        /* as long as a text may be, and a byte longer, with a tree in it and without */
+        memset(copy, ' ', PLQ_MOST_TEXT + 1);
+        compare_reading(c, copy, PLQ_MOST_TEXT, n);
+        memcpy(copy + PLQ_MOST_TEXT - room, text, room);
+        compare_reading(c, copy, PLQ_MOST_TEXT, n);
+        compare_reading(c, copy, PLQ_MOST_TEXT + 1, n);
+        compare_reading(c, copy, 0, n);
+        for (uint32_t i = 0; i < damages; i++) {
+            size = i % 2 == 0 ? add_blanks(c, text, room, copy, PLQ_MOST_TEXT) : room;
+            if (i % 2 != 0) memcpy(copy, text, room);
+            compare_reading(c, copy, size, n);
+            size = damage_text(c, copy, size, i / 2);
+            compare_reading(c, copy, size, n);
+        }
+    }
+    /* a node too many, and something wrong after it */
+    copy[0] = '(';
+    for (uint32_t i = 0; i < PLQ_MOST_NODES; i++) memcpy(copy + 1 + 2 * i, "()", 2);
+    size = 2 + 2 * (size_t)PLQ_MOST_NODES;
+    copy[size - 1] = ')';
+    compare_reading(c, copy, size, n);
+    copy[size] = ')';
+    compare_reading(c, copy, size + 1, n);
+    free(text);
+    free(copy);
 }
 
 /* Every call on the image that a request makes, without metres or with. */
@@ -498,4 +606,6 @@ void compare_tree(struct comparison *c, const uint32_t *parents, uint32_t n, uin
     if (join.trees > 1) compare_strings(c, pack, join.bits, join.trees, parents, n, damages);
     free(pack);
     free(string);
+
+    compare_texts(c, parents, n, damages);
 }

@@ -5,7 +5,7 @@
 #include "calls.h"
 #include "shapes.h"
 
-enum { MOST_CODE = PLQ_WRONG_SAMPLES };
+enum { MOST_CODE = PLQ_TOO_NESTED };
 
 struct comparison {
     const struct store *const *stores; /* each is held against the first */
@@ -25,9 +25,13 @@ void end_comparison(struct comparison *comparison);
 void compare_call(struct comparison *comparison, struct request request);
 
 /* Makes every call on this tree, sealed without metres and with: as it should be, with too little room, and on damaged images,
- * strings, packs, parent lists and questions, `damages` of each. Where the damage says beforehand with which code and place an
- * image is to be refused, every store must answer these. */
+ * strings, packs, parent lists, questions and texts, `damages` of each. Where the damage says beforehand with which code and
+ * place an image is to be refused, every store must answer these. */
 void compare_tree(struct comparison *comparison, const uint32_t *parents, uint32_t n, uint32_t damages);
+
+/* Writes a text, which has brackets alone, with one line a node and two blanks a level. Answers how
+ * many bytes that are, or 0 where they would be more than `room`. */
+size_t text_by_lines(const uint8_t *text, size_t nbytes, uint8_t *lines, size_t room);
 
 /* Makes one sample of an image more than it should be, by chance one of those in its last block, and the sums of that block
  * right again. Answers the block. */

@@ -11,7 +11,7 @@
  * word of the current block for the samples, and only where that finds something wrong a second pass looks for what it is
  * and where; rank is the block's own count and the ones of whole words; select starts at
  * the nearest sample; strings are read by words and bytes while no tree can end in them; the listing keeps one cursor a
- * depth. */
+ * depth, and so do the reading and the writing of text, which are loops without a call. */
 #include "store.h"
 
 #include <stdbool.h>
@@ -32,7 +32,7 @@ enum {
     STRING_BLOCKS = 17,   /* the most blocks of one string */
     WORDS = 126,          /* of payload in one block: as many samples, as many metres */
     SAMPLE_STEP = 64,     /* every such one of a string has a sample */
-    LEVELS = 64           /* the depths that a listing may have */
+    LEVELS = 64           /* the depths that a listing may have, and the levels of a text */
 };
 
 #define FIRST_BIT (UINT64_C(1) << 63)
@@ -1057,6 +1057,84 @@ static plq_answer plain_metres_of_image(const uint8_t *image, size_t nbytes, uin
     const uint8_t *block = im.metres;
     for (uint32_t i = 0; i < im.n; i += WORDS, block += BLOCK) copy_words((uint8_t *)(metres + i), block, lower(WORDS, im.n - i));
     return done(im.n, 0);
+}
+
+/* ---- text ---- */
+
+static bool is_blank(uint8_t byte)
+{
+    return byte == ' ' || byte == '\n' || byte == '\r';
+}
+
+/* The nodes of a level have numbers in a row, and a text has them in this order. So two passes are
+ * enough: the first sees whether the text is one tree and counts the nodes of each level, the
+ * second writes the parent of each node where its level has come to. The root's level is 1, and
+ * the parent that it has, 0, is what the cursor of level 0 says. */
+static plq_answer plain_parents_of_text(const uint8_t *text, size_t nbytes, uint32_t *parents, size_t room)
+{
+    uint32_t cursor[LEVELS + 2] = {0}, open = 0, nodes = 0;
+    if (nbytes > PLQ_MOST_TEXT) return refused(PLQ_WRONG_SIZE, 0);
+    for (size_t at = 0; at < nbytes; at++) {
+        if (text[at] == '(') {
+            if (open == 0 && nodes > 0) return refused(PLQ_NOT_TEXT, at + 1);
+            if (open == LEVELS) return refused(PLQ_TOO_NESTED, at + 1);
+            cursor[open + 2]++;
+            open++;
+            nodes++;
+        } else if (text[at] == ')') {
+            if (open == 0) return refused(PLQ_NOT_TEXT, at + 1);
+            open--;
+        } else if (!is_blank(text[at])) {
+            return refused(PLQ_NOT_TEXT, at + 1);
+        }
+    }
+    if (open > 0 || nodes == 0) return refused(PLQ_NOT_TEXT, nbytes + 1);
+    if (nodes > PLQ_MOST_NODES) return refused(PLQ_WRONG_SIZE, 0);
+    if (room < nodes) return refused(PLQ_NO_ROOM, 0);
+
+    for (uint32_t level = 1; level <= LEVELS; level++) cursor[level + 1] += cursor[level];
+    for (size_t at = 0; at < nbytes; at++) {
+        if (text[at] == '(') {
+            parents[cursor[open + 1]++] = cursor[open];
+            open++;
+        } else if (text[at] == ')') {
+            open--;
+        }
+    }
+    return done(nodes, 0);
+}
+
+/* Writes '(' and goes down where the next node of the level below is a child of the innermost open
+ * one, whose number is what the cursor of its level has come to; else it writes ')' and goes up. */
+static plq_answer plain_text_of_parents(const uint32_t *parents, size_t n, uint8_t *text, size_t room)
+{
+    uint32_t cursor[LEVELS + 2] = {0}, level = 1;
+    if (n < 1 || n > PLQ_MOST_NODES) return refused(PLQ_WRONG_SIZE, 0);
+    size_t wrong = wrong_entry(parents, n);
+    if (wrong != 0) return refused(PLQ_NOT_PARENTS, wrong);
+    for (uint32_t i = 1; i < n; i++)
+        if (parents[i] > cursor[level]) { /* the first child of a node of this level */
+            if (level == LEVELS) return refused(PLQ_TOO_DEEP, i + 1);
+            cursor[++level] = i;
+        }
+    if (room < 2 * n) return refused(PLQ_NO_ROOM, 0);
+
+    cursor[level + 1] = (uint32_t)n;
+    uint32_t open = 1;
+    *text++ = '(';
+    cursor[1]++;
+    while (open > 0) {
+        uint32_t child = cursor[open + 1];
+        if (child < n && parents[child] == cursor[open]) {
+            *text++ = '(';
+            open++;
+            cursor[open] = child + 1;
+        } else {
+            *text++ = ')';
+            open--;
+        }
+    }
+    return done(2 * n, 0);
 }
 
 const struct store STORE = {NAME, CALLS_OF(plain_)};

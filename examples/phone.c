@@ -4,7 +4,8 @@
  *
  * 1. Lock. The lock is for reading, on a file beside the container; a writer waits for it, other readers do not.
  * 2. Copy. At most 293,888 bytes go into a buffer of this program. Nothing is parsed, checked or shown meanwhile.
- * 3. Unlock, at once, also where copying failed. The lock was held for one read of one small file.
+ * 3. Unlock, at once, also where copying failed. The lock was held for one read of one small file. So far this is
+ *    copy_container in container.h.
  * 4. Ask the copy. The check, the listing and the questions see the copy alone, so nobody can change it under them. It
  *    may be minutes until the owner has scrolled to the end, or the phone may go to sleep in the middle: the container
  *    is free, the watch can write its lap, and the system has no lock to end this program for.
@@ -18,39 +19,6 @@
 #include <stdlib.h>
 
 enum { DIARY, SEASON, WEEK, RUN, LAP }; /* depths */
-
-/* Reads up to `room` bytes of a file and gives their number; -1 if the system says no. */
-static ssize_t read_file(const char *name, uint8_t *bytes, size_t room)
-{
-    int file = open(name, O_RDONLY | O_CLOEXEC);
-    if (file < 0) return -1;
-    size_t size = 0;
-    ssize_t got = 1;
-    while (got > 0 && size < room) {
-        do got = read(file, bytes + size, room - size);
-        while (got < 0 && errno == EINTR);
-        if (got > 0) size += (size_t)got;
-    }
-    int error = errno;
-    close(file);
-    errno = error;
-    return got < 0 ? -1 : (ssize_t)size;
-}
-
-/* Locks, copies, unlocks: the lock begins and ends in this function. Gives 0, or the exit status after a message. */
-static int copy_container(const char *name, uint8_t *copy, size_t room, size_t *size)
-{
-    int lock = lock_container(name, LOCK_SH);
-    if (lock < 0 && errno != ENOENT) return not_locked(name);
-    ssize_t got = read_file(name, copy, room);
-    unlock_container(lock);
-    if (got < 0) {
-        fprintf(stderr, "%s: %s\n", name, strerror(errno));
-        return 2;
-    }
-    *size = (size_t)got;
-    return 0;
-}
 
 /* A line for each season and week, with the number of weeks, runs and laps in it: all from one listing. `metres` has
  * those of node x at x - 1, and is NULL where the diary has none. */

@@ -6,10 +6,9 @@
  * between the numbers; from # to the end of a line is a comment. Without METRES the image has none, which is not 0
  * metres: a reader is told that there are none.
  *
- * A container is replaced and never changed: the image goes to a new file, CONTAINER.new, that file is brought to the
- * disk, and only then a rename gives it the container's name. A rename happens or does not happen. So whoever ends this
- * program, at whatever moment, leaves the old diary whole or the new one, and so does a loss of power. CONTAINER.new
- * belongs to the holder of the lock: what a killed program left there is written over by the next one.
+ * A container is replaced and never changed, by replace_container in container.h: whoever ends this
+ * program, at whatever moment, leaves the old diary whole or the new one, and so does a loss of
+ * power.
  *
  * The image is made before the lock is taken, and the lock is held while at most 293,888 bytes are written, brought to
  * the disk and renamed. So this program replaces whatever is there. One that makes its diary from the one in the
@@ -21,15 +20,8 @@
 #include "container.h"
 #include "refusal.h"
 #include <ctype.h>
-#include <sys/stat.h>
 
 enum { ROOM = PLQ_MOST_NODES + 1 }; /* one too many, so that a list that is too long is refused by the library */
-
-static int failed(const char *what)
-{
-    fprintf(stderr, "%s: %s\n", what, strerror(errno));
-    return 2;
-}
 
 /* The next character that is neither blank nor in a comment, or EOF. */
 static int next_of_text(FILE *text, unsigned *line)
@@ -65,95 +57,13 @@ static int read_numbers(const char *name, FILE *text, uint32_t *numbers, size_t 
     return ferror(text) ? failed(name) : 0;
 }
 
-static int read_file(const char *name, uint32_t *numbers, size_t *count)
+static int read_list(const char *name, uint32_t *numbers, size_t *count)
 {
     FILE *text = fopen(name, "r");
     if (!text) return failed(name);
     int status = read_numbers(name, text, numbers, count);
     fclose(text);
     return status;
-}
-
-static int write_all(int file, const uint8_t *bytes, size_t count)
-{
-    while (count > 0) {
-        ssize_t written = write(file, bytes, count);
-        if (written < 0 && errno == EINTR) continue;
-        if (written == 0) errno = EIO;
-        if (written <= 0) return -1;
-        bytes += written;
-        count -= (size_t)written;
-    }
-    return 0;
-}
-
-/* Returns when what was written is on the disk, and on Apple's systems not only in the disk's own memory. */
-static int to_disk(int file)
-{
-#ifdef F_FULLFSYNC
-    if (fcntl(file, F_FULLFSYNC) == 0) return 0;
-#endif
-    return fsync(file);
-}
-
-/* Gives a new file the permissions of the one that it will replace, if there is one. */
-static int permissions_of(const char *replaced, int file)
-{
-    struct stat old;
-    return stat(replaced, &old) < 0 ? 0 : fchmod(file, old.st_mode & 0777);
-}
-
-/* Writes the file that will replace the container, and returns when it is on the disk: no rename can come before. */
-static int write_new(const char *new_name, const char *container, const uint8_t *bytes, size_t count)
-{
-    int file = open(new_name, O_WRONLY | O_CREAT | O_TRUNC | O_CLOEXEC, 0666);
-    if (file < 0) return -1;
-    int written = permissions_of(container, file);
-    if (written == 0) written = write_all(file, bytes, count);
-    if (written == 0) written = to_disk(file);
-    int error = errno;
-    if (close(file) < 0 && written == 0) return -1;
-    errno = error;
-    return written;
-}
-
-/* Brings the names in the container's folder to the disk: before that a loss of power may undo the rename. */
-static int folder_to_disk(const char *container)
-{
-    char folder[PATH_MAX];
-    if (name_beside(container, "", folder) < 0) return -1;
-    char *slash = strrchr(folder, '/');
-    if (slash) slash[1] = '\0';
-    int file = open(slash ? folder : ".", O_RDONLY | O_DIRECTORY | O_CLOEXEC);
-    if (file < 0) return -1;
-    int done = to_disk(file), error = errno;
-    close(file);
-    errno = error;
-    return done;
-}
-
-static void remove_keeping_errno(const char *name)
-{
-    int error = errno;
-    unlink(name);
-    errno = error;
-}
-
-static int replace_container(const char *container, const uint8_t *image, size_t size)
-{
-    char new_name[PATH_MAX];
-    if (name_beside(container, ".new", new_name) < 0) return failed(container);
-    int lock = lock_container(container, LOCK_EX);
-    if (lock < 0) return not_locked(container);
-    int replaced = write_new(new_name, container, image, size);
-    if (replaced == 0) replaced = rename(new_name, container);
-    if (replaced < 0) remove_keeping_errno(new_name);
-    unlock_container(lock);
-    if (replaced < 0) return failed(container);
-    if (folder_to_disk(container) == 0) return 0;
-    failed(container);
-    fputs("the container was replaced, but a loss of power may undo it\n", stderr);
-    return 3;
 }
 
 int main(int words, char **word)
@@ -169,8 +79,8 @@ int main(int words, char **word)
         return 2;
     }
     const char *diary = words > first ? word[first] : "standard input";
-    int status = words > first ? read_file(diary, parents, &nodes) : read_numbers(diary, stdin, parents, &nodes);
-    if (status == 0 && with_metres) status = read_file(word[2], metres, &measured);
+    int status = words > first ? read_list(diary, parents, &nodes) : read_numbers(diary, stdin, parents, &nodes);
+    if (status == 0 && with_metres) status = read_list(word[2], metres, &measured);
     if (status != 0) return status;
 
     plq_answer sealed = with_metres ? plq_image_with_metres(parents, nodes, metres, measured, image, sizeof image)

@@ -1,4 +1,5 @@
-/* Parlaqen: a sealed store for one tree of 1 to 65,535 nodes (LOUDS++), and tree strings laid end to end.
+/* Parlaqen: a sealed store for one tree of 1 to 65,535 nodes (LOUDS++), tree strings laid end to end, and trees as
+ * parenthesis text.
  *
  * Nodes are numbered from 1 in level order: the root, its children, their children, and so on. A parent list has for
  * each node, in that order, the number of its parent, and 0 for the root. An image may have metres too, a number of 32
@@ -21,9 +22,9 @@
 #include <stdint.h>
 
 #define PLQ_VERSION_MAJOR 0
-#define PLQ_VERSION_MINOR 5
+#define PLQ_VERSION_MINOR 6
 #define PLQ_VERSION_PATCH 0
-#define PLQ_VERSION_STRING "0.5.0"
+#define PLQ_VERSION_STRING "0.6.0"
 
 /* The library's sizes have 64 bits on every machine. A call with shorter ones would hand it lists of other lengths. */
 #if SIZE_MAX != 0xFFFFFFFFFFFFFFFFu
@@ -46,6 +47,9 @@ extern "C" {
 /* How a call ended. Where several refusals hold, the one further up in this list is answered. docs/FORMAT.md has the
  * parts of an image, and for each of them the code that names its damage.
  *
+ * A text is the one exception: of 16 and 17 the one with the earlier byte is answered, and 2 for a
+ * text of too many nodes comes after both; 2 for one of too many bytes is the first of all.
+ *
  * 7 is retired: no call answers it, and its number is never used again. It was the answer to every image whose sums are
  * right and that no tree gives; 11 to 15 say what is wrong with such an image. */
 enum plq_code {
@@ -63,10 +67,14 @@ enum plq_code {
     PLQ_NOT_STRING = 4,     /* no tree string (pack: no strings end to end); place: the first bit, from 1, up to which
                                the bits begin none, or one more than there are bits */
     PLQ_OTHER_TREES = 10,   /* the pack has another number of trees; place: the number found */
+    PLQ_NOT_TEXT = 16,      /* the text is not one tree, of whatever depth and size; place: the
+                               first byte, from 1, up to which it begins none, or one more than
+                               there are bytes */
+    PLQ_TOO_NESTED = 17,    /* the text opens a 65th level; place: the byte that does, from 1 */
     PLQ_NOT_PARENTS = 3,    /* no parent list; place: the lowest offending entry, from 1 */
     PLQ_NOT_ALLOWED = 8,    /* a kind, node or argument is not allowed, or the image has no metres; place: the lowest
                                such question, from 1 (listing, and metres read back: 1) */
-    PLQ_TOO_DEEP = 9,       /* the listing would go below depth 63; place: its first node at depth 64 */
+    PLQ_TOO_DEEP = 9,       /* the listing, or the text, would go below depth 63; place: its first node at depth 64 */
     PLQ_NO_ROOM = 1         /* an output has too little room; place 0 */
 };
 
@@ -91,6 +99,7 @@ enum {
     PLQ_MOST_BITS = 131071,
     PLQ_MOST_TREES = 256,
     PLQ_MOST_QUESTIONS = 256,
+    PLQ_MOST_TEXT = 1048576, /* bytes of a text, blanks among them */
     PLQ_BLOCK_BYTES = 512,
     PLQ_MOST_TREE_IMAGE_BYTES = 27136, /* of an image without metres, 53 blocks */
     PLQ_MOST_IMAGE_BYTES = 293888      /* of any image, 574 blocks: the most that a reader accepts */
@@ -106,7 +115,8 @@ enum {
  * PLQ_STRING_BITS(n)       bits of a tree string
  * PLQ_STRING_BYTES(n)      bytes of a tree string
  * PLQ_BYTES_OF_BITS(bits)  bytes that so many bits of a string or a pack take
- * PLQ_LISTING_NUMBERS(n)   numbers of a listing of n nodes */
+ * PLQ_LISTING_NUMBERS(n)   numbers of a listing of n nodes
+ * PLQ_TEXT_BYTES(n)        bytes of the text of n nodes as it is written, without blanks */
 #define PLQ_IMAGE_BYTES(n, m)                                                                                          \
     (PLQ_BLOCK_BYTES * (1 + PLQ_SHARES_(n, 4000) + PLQ_SHARES_(PLQ_SIZE_(n) + 1, 4000) +                               \
                         2 * PLQ_SHARES_(PLQ_SHARES_(m, 64), 126)))
@@ -116,6 +126,7 @@ enum {
 #define PLQ_STRING_BYTES(n) PLQ_BYTES_OF_BITS(PLQ_STRING_BITS(n))
 #define PLQ_BYTES_OF_BITS(bits) PLQ_SHARES_(bits, 8)
 #define PLQ_LISTING_NUMBERS(n) (2 * PLQ_SIZE_(n))
+#define PLQ_TEXT_BYTES(n) (2 * PLQ_SIZE_(n))
 
 /* For the sizes above alone: how many shares of `share` each are needed for `all`; and a number as a size. */
 #define PLQ_SHARES_(all, share) (PLQ_SIZE_(all) / (share) + (PLQ_SIZE_(all) % (share) != 0))
@@ -138,7 +149,9 @@ enum {
  *   plq_ask                  questions answered         0
  *   plq_split                bits of the pack           trees
  *   plq_join                 bits of the pack, new      trees, new
- *   plq_list                 nodes listed               0 */
+ *   plq_list                 nodes listed               0
+ *   plq_parents_of_text      n                          0
+ *   plq_text_of_parents      bytes of the text          0 */
 typedef struct {
     uint32_t code, place, first, second;
 } plq_answer;
@@ -210,6 +223,23 @@ PLQ_MUST_USE plq_answer plq_join(uint8_t *pack, size_t room, size_t bits, size_t
  * PLQ_WRONG_COUNTS, PLQ_WRONG_SAMPLES, PLQ_NOT_ALLOWED, PLQ_TOO_DEEP, PLQ_NO_ROOM. */
 PLQ_MUST_USE plq_answer plq_list(const uint8_t *image, size_t nbytes, uint32_t node, uint32_t *pairs, size_t room);
 
+/* Parenthesis text back to its parents. A node is `(`, its children, `)`; the bytes 32, 10 and 13
+ * are blanks, which may be anywhere and mean nothing, and no other byte may be there. Done exactly
+ * if the text is one tree of 1 to 65,535 nodes on at most 64 levels, that of the root among them,
+ * in at most PLQ_MOST_TEXT bytes. A text of b bytes has at most b / 2 nodes, so as many numbers are
+ * enough, and PLQ_MOST_NODES always.
+ * The byte that PLQ_NOT_TEXT and PLQ_TOO_NESTED name counts blanks too; the earlier one is
+ * answered. PLQ_WRONG_SIZE is there twice: the first is for too many bytes, the second, for too
+ * many nodes, comes only where the text is one tree on at most 64 levels.
+ * Refusals: PLQ_WRONG_SIZE, PLQ_NOT_TEXT or PLQ_TOO_NESTED, PLQ_WRONG_SIZE, PLQ_NO_ROOM. */
+PLQ_MUST_USE plq_answer plq_parents_of_text(const uint8_t *text, size_t nbytes, uint32_t *parents, size_t room);
+
+/* Parents to parenthesis text: PLQ_TEXT_BYTES(n) brackets, without blanks and without a 0 after
+ * them. Parents 0 1 1 1 2 2 4 give ((()())()(())). A tree of more than 64 levels is refused as the
+ * listing of its root is.
+ * Refusals: PLQ_WRONG_SIZE, PLQ_NOT_PARENTS, PLQ_TOO_DEEP, PLQ_NO_ROOM. */
+PLQ_MUST_USE plq_answer plq_text_of_parents(const uint32_t *parents, size_t n, uint8_t *text, size_t room);
+
 /* The rest is no part of the archive: it is compiled with the caller. */
 
 /* A question as plq_ask_questions takes it; `kind` is one of enum plq_kind. An answer that is a node is at most 65,535:
@@ -263,10 +293,14 @@ PLQ_MUST_USE static inline const char *plq_code_text(uint32_t code)
     case PLQ_NOT_STRING: return "the bits are no tree string, or in a pack no strings end to end; the place is the "
                                 "first bit, from 1, up to which they begin none, or one more than there are bits";
     case PLQ_OTHER_TREES: return "the pack has another number of trees; the place is the number found";
+    case PLQ_NOT_TEXT: return "the text is not one tree; the place is the first byte, from 1, up to which it begins "
+                              "none, or one more than there are bytes";
+    case PLQ_TOO_NESTED: return "the text opens a 65th level; the place is the byte that does, from 1";
     case PLQ_NOT_PARENTS: return "no parent list has these numbers; the place is the lowest such entry, from 1";
     case PLQ_NOT_ALLOWED: return "a kind, node or argument is not allowed, or the image has no metres; the place is "
                                  "the lowest such question, from 1, and 1 for a listing and for metres read back";
-    case PLQ_TOO_DEEP: return "the listing would go below depth 63; the place is its first node at depth 64";
+    case PLQ_TOO_DEEP: return "the listing, or the text, would go below depth 63; the place is its first node at "
+                              "depth 64";
     case PLQ_NO_ROOM: return "an output has too little room";
     default: return "a code that this header does not know";
     }

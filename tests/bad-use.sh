@@ -10,13 +10,16 @@ passed "threads: sixteen of them on one image, each with data of its own in betw
 compile "$root/tests/order.c" bad-use/order
 
 # What the examples are tried on: right, damaged, and refused for other reasons.
-cp "$root/examples/diary.txt" "$root/examples/metres.txt" diary.plq bad-use/
+cp "$root/examples/diary.txt" "$root/examples/metres.txt" "$root/examples/brackets.txt" diary.plq bad-use/
 cp diary.plq bad-use/damaged.plq
 printf '\377' | dd of=bad-use/damaged.plq bs=1 seek=1324 conv=notrunc status=none
 head -c 2559 diary.plq >bad-use/short.plq
 echo 0 1 2 1 >bad-use/no-tree.txt
 echo 0 1 one >bad-use/no-numbers.txt
 seq 51 >bad-use/one-too-few.txt
+head -c 100 "$root/examples/brackets.txt" >bad-use/cut-off.txt
+head -c 1048577 /dev/zero >bad-use/too-long.txt
+seq 0 64 | seal >bad-use/65-levels.plq
 
 example_runs() { # FOLDER [WORDS..]: what the examples in FOLDER say, and how they end, each run with WORDS before it
     local command status
@@ -39,10 +42,18 @@ phone bad-use/damaged.plq
 phone bad-use/short.plq
 watch
 watch 5
+exchange in bad-use/brackets.txt bad-use/exchanged.plq
+exchange out bad-use/exchanged.plq bad-use/exchanged.txt
+exchange out bad-use/with-metres.plq
+exchange in bad-use/diary.txt
+exchange in bad-use/cut-off.txt
+exchange in bad-use/too-long.txt
+exchange out bad-use/damaged.plq
+exchange out bad-use/65-levels.plq
 COMMANDS
 }
 example_runs "$bin" >bad-use/plain.txt
-[ "$(grep -c ': exit 0$' bad-use/plain.txt)" = 6 ] || fail "bad use: of the examples' runs not just six are done"
+[ "$(grep -c ': exit 0$' bad-use/plain.txt)" = 9 ] || fail "bad use: of the examples' runs not just nine are done"
 
 # Where the system puts programs at random over too wide a range, the sanitizers do not find their own place. The
 # search for leaks takes seconds on some machines, and the library allocates nothing; valgrind, below, searches.
@@ -67,7 +78,7 @@ if works -fsanitize=address,undefined; then
     sanitized "$root/tests/bad_use.c" bad-use/sanitized/bad_use
     sanitized "$root/tests/threads.c" bad-use/sanitized/threads -pthread
     for name in header order; do sanitized "$root/tests/$name.c" "bad-use/sanitized/$name"; done
-    for name in seal phone watch; do sanitized "$root/examples/$name.c" "bad-use/sanitized/$name"; done
+    for name in seal phone watch exchange; do sanitized "$root/examples/$name.c" "bad-use/sanitized/$name"; done
     "${under_sanitizers[@]}" bad-use/sanitized/bad_use
     "${under_sanitizers[@]}" bad-use/sanitized/threads 40
     for name in header order; do "${under_sanitizers[@]}" "bad-use/sanitized/$name"; done

@@ -4,7 +4,8 @@
  *     bad_use [few]     with `few` each repeated group makes fewer attempts, for a run under a slow tool
  *
  * What is expected comes from include/parlaqen.h and docs/FORMAT.md: the trees below have their strings, images, packs,
- * answers and listings made here by the steps of FORMAT.md, and those of tree T are compared with the page's own bytes.
+ * answers, listings and texts made here by the steps of FORMAT.md, and those of tree T are compared with the page's own
+ * bytes.
  * It prints a line for each thing that is not as expected. Exit status: 0 if there was none. */
 #define _DEFAULT_SOURCE /* MAP_ANONYMOUS */
 #include <limits.h>
@@ -64,10 +65,12 @@ enum call {
     SPLIT,
     JOIN,
     LIST,
+    PARENTS_OF_TEXT,
+    TEXT_OF_PARENTS,
     CALLS
 };
 
-enum { MOST_LISTS = 3, MOST_REFUSALS = 10, CODES = 16 }; /* codes are 0 to 15, and 7, which is retired, is none */
+enum { MOST_LISTS = 3, MOST_REFUSALS = 10, CODES = 18 }; /* codes are 0 to 17, and 7, which is retired, is none */
 enum use { READ, WRITTEN, CHANGED }; /* the pack of a join is read, and then changed in its place */
 
 /* What the header lists first for each call that reads an image. */
@@ -101,6 +104,8 @@ static const struct {
     {"plq_join", 2, {{1, CHANGED}, {4, READ}},
      {PLQ_WRONG_SIZE, PLQ_LEFTOVER_SET, PLQ_NOT_STRING, PLQ_OTHER_TREES, PLQ_NOT_PARENTS, PLQ_NO_ROOM}},
     {"plq_list", 2, {{1, READ}, {4, WRITTEN}}, {OF_IMAGE, PLQ_NOT_ALLOWED, PLQ_TOO_DEEP, PLQ_NO_ROOM}},
+    {"plq_parents_of_text", 2, {{1, READ}, {4, WRITTEN}}, {PLQ_WRONG_SIZE, PLQ_NOT_TEXT, PLQ_TOO_NESTED, PLQ_NO_ROOM}},
+    {"plq_text_of_parents", 2, {{4, READ}, {1, WRITTEN}}, {PLQ_WRONG_SIZE, PLQ_NOT_PARENTS, PLQ_TOO_DEEP, PLQ_NO_ROOM}},
 };
 
 static int reads_image(enum call call)
@@ -111,7 +116,8 @@ static int reads_image(enum call call)
 
 static int takes_parents(enum call call)
 {
-    return call == STRING_OF_PARENTS || call == IMAGE_OF_PARENTS || call == IMAGE_WITH_METRES || call == JOIN;
+    return call == STRING_OF_PARENTS || call == IMAGE_OF_PARENTS || call == IMAGE_WITH_METRES || call == JOIN ||
+           call == TEXT_OF_PARENTS;
 }
 
 static int reads_bits(enum call call)
@@ -254,6 +260,8 @@ static plq_answer call_it(const attempt *a)
     case ASK_QUESTIONS: return plq_ask_questions(first, first_count, second, second_count, third, third_count);
     case SPLIT: return plq_split(first, first_count, a->bits, a->trees, second, second_count, third, third_count);
     case JOIN: return plq_join(first, first_count, a->bits, a->trees, second, second_count);
+    case PARENTS_OF_TEXT: return plq_parents_of_text(first, first_count, second, second_count);
+    case TEXT_OF_PARENTS: return plq_text_of_parents(first, first_count, second, second_count);
     default: return plq_list(first, first_count, a->node, second, second_count);
     }
 }
@@ -268,6 +276,7 @@ static size_t result_bytes(const attempt *a, plq_answer answer)
     case SPLIT: return 4 * (size_t)answer.second;
     case JOIN: return PLQ_BYTES_OF_BITS(answer.first);
     case LIST: return 4 * PLQ_LISTING_NUMBERS(answer.first);
+    case TEXT_OF_PARENTS: return answer.first;
     default: return 4 * (size_t)answer.first;
     }
 }
@@ -298,6 +307,8 @@ static int place_fits(const attempt *a, plq_answer answer)
     case PLQ_WRONG_SAMPLES: return place >= 3 && place < blocks; /* before them come the header, R1 and R0 */
     case PLQ_NOT_STRING: return place >= 1 && place <= a->bits + 1;
     case PLQ_OTHER_TREES: return place != a->trees;
+    case PLQ_NOT_TEXT: return place >= 1 && place <= a->list[0].count + 1;
+    case PLQ_TOO_NESTED: return place > 64 && place <= a->list[0].count;
     case PLQ_NOT_PARENTS: return place >= 1 && place <= a->list[list_of_parents(a->call)].count;
     case PLQ_NOT_ALLOWED:
         return place >= 1 && place <= (a->call == LIST || a->call == METRES_OF_IMAGE ? 1 : a->list[1].count);
@@ -359,11 +370,12 @@ typedef struct {
 } right_use;
 
 /* Sealing makes images of both versions of every tree, and metres are read back from that of version 2. Which one the
- * other calls read is that of the tree. */
+ * other calls read is that of the tree.
+ * Where a tree has more than 64 levels, the calls about text take another one of as many nodes. */
 struct tree {
     const char *name;
     uint32_t n, m;
-    uint32_t *parents, *metres;
+    uint32_t *parents, *metres, *parents_of_text;
     int has_metres; /* to the calls that read an image: it is of version 2 */
     right_use use[CALLS];
 };
@@ -496,6 +508,43 @@ static void append_listing(uint32_t *pairs, uint32_t *listed, const uint32_t *pa
         append_listing(pairs, listed, parents, n, child, depth + 1);
 }
 
+static uint32_t *copy_of(const uint32_t *numbers, size_t count)
+{
+    uint32_t *copy = must(malloc(4 * count));
+    return memcpy(copy, numbers, 4 * count);
+}
+
+/* How many levels has the tree? A level begins with the first node that has a parent on the level
+ * before. */
+static uint32_t levels_of(const uint32_t *parents, uint32_t n)
+{
+    uint32_t levels = 1;
+    for (uint32_t node = 2, first_of_level = 1; node <= n; node++)
+        if (parents[node - 1] >= first_of_level) {
+            levels++;
+            first_of_level = node;
+        }
+    return levels;
+}
+
+/* Each node below the one before it, down to the last level but one, and all others on the last. */
+static uint32_t *levelled(uint32_t n, uint32_t levels)
+{
+    uint32_t *parents = must(malloc(4 * (size_t)n));
+    for (uint32_t i = 0; i < n; i++) parents[i] = i < levels - 1 ? i : levels - 1;
+    return parents;
+}
+
+/* Appends a node and everything below it, which is at most 64 levels. */
+static void append_text(uint8_t *text, size_t *bytes, const uint32_t *parents, uint32_t n, uint32_t node)
+{
+    text[(*bytes)++] = '(';
+    uint32_t last = nodes_with_parent_before(parents, n, node + 1);
+    for (uint32_t child = nodes_with_parent_before(parents, n, node) + 1; child <= last; child++)
+        append_text(text, bytes, parents, n, child);
+    text[(*bytes)++] = ')';
+}
+
 /* Questions whose answers can be read off the two lists, at the two ends and in the middle. */
 static void make_questions(const struct tree *tree, plq_question *questions, uint32_t *answers)
 {
@@ -548,6 +597,10 @@ static void make_tree(struct tree *tree, const char *name, uint32_t n, uint32_t 
     put_image(image_alone, parents, n, tree->m, NULL);
     put_image(image_with, parents, n, tree->m, metres);
     append_listing(pairs, &listed, parents, n, node, 0);
+    tree->parents_of_text = levels_of(parents, n) <= 64 ? copy_of(parents, n) : levelled(n, 64);
+    uint8_t *text = must(malloc(PLQ_TEXT_BYTES(n)));
+    size_t text_bytes = 0;
+    append_text(text, &text_bytes, tree->parents_of_text, n, 1);
     make_questions(tree, questions, answers);
     const uint32_t starts_and_sizes[] = {1, 2 * n + 2, n, 1};
     memcpy(places, starts_and_sizes, sizeof starts_and_sizes);
@@ -560,6 +613,7 @@ static void make_tree(struct tree *tree, const char *name, uint32_t n, uint32_t 
     content old_pack = {before, PLQ_BYTES_OF_BITS(joined_bits)}, new_pack = {joined, PLQ_BYTES_OF_BITS(joined_bits)};
     content starts = {places, 4 * (1 + two)}, sizes = {places + 2, 4 * (1 + two)};
     content listing = {pairs, 8 * (size_t)listed}, none = {NULL, 0};
+    content as_text = {text, text_bytes}, of_text = {tree->parents_of_text, 4 * (size_t)n};
     const right_use uses[CALLS] = {
         {0, 0, 0, {as_parents, {NULL, as_string.bytes}}, {none, as_string}, 2 * n + 1, 1},
         {string_bits, 0, 0, {as_string, {NULL, as_parents.bytes}}, {none, as_parents}, n, 0},
@@ -574,6 +628,8 @@ static void make_tree(struct tree *tree, const char *name, uint32_t n, uint32_t 
          (uint32_t)pack_bits, (uint32_t)(1 + two)},
         {bits_before, two, 0, {old_pack, as_parents}, {new_pack, none}, (uint32_t)joined_bits, (uint32_t)(1 + two)},
         {0, 0, node, {as_image, {NULL, listing.bytes}}, {none, listing}, listed, 0},
+        {0, 0, 0, {as_text, {NULL, of_text.bytes}}, {none, of_text}, n, 0},
+        {0, 0, 0, {of_text, {NULL, as_text.bytes}}, {none, as_text}, 2 * n, 0},
     };
     memcpy(tree->use, uses, sizeof uses);
 }
@@ -582,6 +638,8 @@ static void drop_tree(struct tree *tree)
 {
     free(tree->parents);
     free(tree->metres);
+    free(tree->parents_of_text);
+    free(tree->use[PARENTS_OF_TEXT].before[0].at);
     free(tree->use[PARENTS_OF_STRING].before[0].at);
     free(tree->use[IMAGE_OF_PARENTS].after[1].at);
     free(tree->use[IMAGE_WITH_METRES].after[2].at);
@@ -621,12 +679,6 @@ static uint32_t *any_metres(uint32_t n)
     metres[n / 2] = 0;
     metres[n - 1] = UINT32_MAX;
     return metres;
-}
-
-static uint32_t *copy_of(const uint32_t *numbers, size_t count)
-{
-    uint32_t *copy = must(malloc(4 * count));
-    return memcpy(copy, numbers, 4 * count);
 }
 
 static void make_trees(void)
@@ -703,6 +755,10 @@ static void trees_are_those_of_the_page(void)
     expect(memcmp(t.use[PARENTS_OF_STRING].before[0].at, string, 2) == 0, "T's string");
     expect(memcmp(t.use[SPLIT].before[0].at, pack, 3) == 0, "T's pack");
     expect(memcmp(t.use[LIST].after[1].at, listing, sizeof listing) == 0, "T's listing of node 2");
+    expect(t.use[PARENTS_OF_TEXT].before[0].bytes == 14, "the bytes of T's text");
+    expect(memcmp(t.use[PARENTS_OF_TEXT].before[0].at, "((()())()(()))", 14) == 0, "T's text");
+    expect(levels_of(path.parents, path.n) == PLQ_MOST_NODES && levels_of(path.parents_of_text, path.n) == 64,
+           "the levels of the longest path, and of what is written as text in its place");
     expect(path.use[CHECK_IMAGE].before[0].bytes == PLQ_MOST_TREE_IMAGE_BYTES, "the largest image without metres");
     expect(path_with_metres.use[CHECK_IMAGE].before[0].bytes == PLQ_MOST_IMAGE_BYTES, "the largest image");
     expect(path.use[PARENTS_OF_STRING].bits == PLQ_MOST_BITS, "the longest string");
@@ -789,6 +845,12 @@ static void no_lists(void)
         {LIST, SECOND, 0, 0, 2, PLQ_NO_ROOM, 0},
         {LIST, SECOND, 0, 0, 0, PLQ_NOT_ALLOWED, 1},
         {LIST, FIRST | SECOND, 0, 0, 2, PLQ_WRONG_SIZE, 0},
+        {PARENTS_OF_TEXT, FIRST, 0, 0, 0, PLQ_NOT_TEXT, 1},
+        {PARENTS_OF_TEXT, SECOND, 0, 0, 0, PLQ_NO_ROOM, 0},
+        {PARENTS_OF_TEXT, FIRST | SECOND, 0, 0, 0, PLQ_NOT_TEXT, 1},
+        {TEXT_OF_PARENTS, FIRST, 0, 0, 0, PLQ_WRONG_SIZE, 0},
+        {TEXT_OF_PARENTS, SECOND, 0, 0, 0, PLQ_NO_ROOM, 0},
+        {TEXT_OF_PARENTS, FIRST | SECOND, 0, 0, 0, PLQ_WRONG_SIZE, 0},
     };
     group = "NULL with 0";
     for (size_t i = 0; i < COUNT_OF(cases); i++) {
@@ -806,13 +868,15 @@ static void no_lists(void)
     }
 }
 
-/* Numbers that are no length of the small list that is there, nor of any that is right. The last four would be its
- * length, which is `small`, if their high bits were lost, or their product with 2, 4 or 8 had 64 bits. */
-enum { FALSE_LENGTHS = 13 };
+/* Numbers that are no length of the small list that is there, nor of any that is right, but for the first, which a text
+ * may have. The last four would be its length, which is `small`, if their high bits were lost, or their product with 2,
+ * 4 or 8 had 64 bits. */
+enum { FALSE_LENGTHS = 14 };
 static void make_false_lengths(uint64_t small, uint64_t lengths[FALSE_LENGTHS])
 {
     const uint64_t one = 1;
     const uint64_t all[FALSE_LENGTHS] = {PLQ_MOST_IMAGE_BYTES + PLQ_BLOCK_BYTES,
+                                         PLQ_MOST_TEXT + 1,
                                          one << 31,
                                          one << 32,
                                          (one << 32) + 7,
@@ -839,9 +903,10 @@ static void false_lengths_of_lists(void)
                 attempt a = right_attempt(&t, call, i % 2 * GUARD);
                 char what[64];
                 make_false_lengths(a.list[list].count, lengths);
-                a.list[list].count = lengths[i / 2];
+                int may_be = call == PARENTS_OF_TEXT && list == 0 && lengths[i / 2] <= PLQ_MOST_TEXT;
+                if (!may_be) a.list[list].count = lengths[i / 2];
                 snprintf(what, sizeof what, "list %zu said to have %llu", list, (unsigned long long)lengths[i / 2]);
-                if (calls[call].list[list].use == READ)
+                if (calls[call].list[list].use == READ && !may_be)
                     expect_refused(&a, PLQ_WRONG_SIZE, 0, what);
                 else
                     expect_done(&a, &t, what);
@@ -1145,6 +1210,145 @@ static void refused_joins(void)
     put_number(&a, 1, 0, 1);
     expect_refused(&a, PLQ_WRONG_SIZE, 0, "a joined length over the limit, and no parent list");
     end(&a);
+}
+
+static void expect_no_text(const void *text, size_t bytes, uint32_t code, uint32_t place, const char *what)
+{
+    attempt a = right_attempt(&t, PARENTS_OF_TEXT, 0);
+    lend(&a, 0, text, bytes);
+    expect_refused_in_every_room(&a, code, place, what);
+    end(&a);
+}
+
+/* Small texts that are not one tree: each with its bytes, its length and the place of the refusal. */
+static void refused_small_texts(void)
+{
+    static const struct {
+        const char *text;
+        size_t bytes;
+        uint32_t place;
+    } texts[] = {
+        {"", 0, 1},        {" ", 1, 2},        {"\n\r ", 3, 4},      {"(", 1, 2},              {")", 1, 1},
+        {"x", 1, 1},       {"[]", 2, 1},       {"(()", 3, 4},        {"()(", 3, 3},            {"())", 3, 3},
+        {"()()", 4, 3},    {"() x", 4, 4},     {"( ) )", 5, 5},      {"\n)\n", 3, 2},          {"()\r\n(", 5, 5},
+        {" ( ( ( ", 7, 8}, {"(x)", 3, 2},      {"('*)", 4, 2},       {"(*)", 3, 2},            {"(\t)", 3, 2},
+        {"(\v)", 3, 2},    {"(\f)", 3, 2},     {"(\0)", 3, 2},       {"()\0", 3, 3},           {"()\x1A", 3, 3},
+        {"(\xA8)", 3, 2},  {"\xA8\xA9", 2, 1}, {"(\xC2\xA0)", 4, 2}, {"\xEF\xBB\xBF()", 5, 1},
+        {"((()())()(())", 13, 14},
+    };
+    for (size_t i = 0; i < COUNT_OF(texts); i++)
+        expect_no_text(texts[i].text, texts[i].bytes, PLQ_NOT_TEXT, texts[i].place, "a small text");
+}
+
+/* Levels that are too many, or just not: the byte is that of the 65th, blanks counted, whatever
+ * comes after it. */
+static void refused_levels(void)
+{
+    uint8_t text[300];
+    for (size_t blanks = 0; blanks <= 9; blanks += 3) {
+        memset(text, '\n', blanks);
+        memset(text + blanks, '(', 65);
+        memset(text + blanks + 65, ')', 65);
+        const uint32_t last = (uint32_t)blanks + 65;
+        expect_no_text(text, last + 65, PLQ_TOO_NESTED, last, "65 levels");
+        expect_no_text(text, last + 64, PLQ_TOO_NESTED, last, "65 levels that are not all closed");
+        expect_no_text(text, last, PLQ_TOO_NESTED, last, "65 levels that are only opened");
+        expect_no_text(text, last - 1, PLQ_NOT_TEXT, last, "64 levels that are only opened");
+        text[last] = 'x';
+        expect_no_text(text, last + 65, PLQ_TOO_NESTED, last, "65 levels, and a wrong byte after them");
+        text[last - 1] = 'x';
+        expect_no_text(text, last + 65, PLQ_NOT_TEXT, last, "64 levels, and a wrong byte after them");
+        text[last - 1] = ')';
+        memset(text + last, ')', 64);
+        expect_no_text(text, last + 64, PLQ_NOT_TEXT, last + 64, "64 levels, and one closed that is not open");
+    }
+    /* 64 levels, left again up to any of them, and then one level more than they were */
+    for (size_t at = 1; at <= 64; at++) {
+        size_t size = 0;
+        for (size_t i = 0; i < 64; i++) text[size++] = '(';
+        for (size_t i = at; i < 64; i++) text[size++] = ')';
+        for (size_t i = at; i < 65; i++) text[size++] = '(';
+        uint32_t place = (uint32_t)size;
+        for (size_t i = 0; i < 65; i++) text[size++] = ')';
+        expect_no_text(text, size, PLQ_TOO_NESTED, place, "65 levels beside 64");
+    }
+    /* writing: the first node at depth 64, unless the list is none */
+    for (uint32_t n = 65; n <= 70; n++) {
+        for (uint32_t levels = 65; levels <= n; levels++) {
+            uint32_t *parents = levelled(n, levels);
+            attempt a = right_attempt(&t, TEXT_OF_PARENTS, 0);
+            lend(&a, 0, parents, 4 * (size_t)n);
+            expect_refused_in_every_room(&a, PLQ_TOO_DEEP, 65, "a tree of more than 64 levels");
+            put_number(&a, 0, n - 1, n);
+            expect_refused_in_every_room(&a, PLQ_NOT_PARENTS, n, "65 levels or more, but a bad last entry");
+            end(&a);
+            free(parents);
+        }
+    }
+    attempt a = right_attempt(&path, TEXT_OF_PARENTS, 0);
+    lend(&a, 0, path.parents, 4 * (size_t)path.n);
+    expect_refused_in_every_room(&a, PLQ_TOO_DEEP, 65, "the longest path");
+    end(&a);
+}
+
+/* Too many bytes are refused before anything is read; too many nodes only of what is one tree on at
+ * most 64 levels. */
+static void refused_long_texts(void)
+{
+    uint8_t *text = must(malloc(PLQ_MOST_TEXT + 1));
+    memset(text, ' ', PLQ_MOST_TEXT + 1);
+    expect_no_text(text, PLQ_MOST_TEXT, PLQ_NOT_TEXT, PLQ_MOST_TEXT + 1, "as many blanks as a text may have bytes");
+    memcpy(text + 77, "()", 2);
+    expect_no_text(text, PLQ_MOST_TEXT + 1, PLQ_WRONG_SIZE, 0, "a tree in a byte too many");
+    memset(text, 'x', PLQ_MOST_TEXT + 1);
+    expect_no_text(text, PLQ_MOST_TEXT + 1, PLQ_WRONG_SIZE, 0, "no tree in a byte too many");
+    expect_no_text(text, PLQ_MOST_TEXT, PLQ_NOT_TEXT, 1, "no tree in as many bytes as there may be");
+
+    const size_t nodes = PLQ_MOST_NODES + 1;
+    text[0] = '(';
+    for (size_t i = 1; i < nodes; i++) memcpy(text + 2 * i - 1, "()", 2);
+    text[2 * nodes - 1] = ')';
+    memset(text + 2 * nodes, '\n', 9);
+    expect_no_text(text, 2 * nodes + 9, PLQ_WRONG_SIZE, 0, "a node too many");
+    expect_no_text(text, 2 * nodes - 1, PLQ_NOT_TEXT, (uint32_t)(2 * nodes), "a node too many in what is not over");
+    text[2 * nodes + 9] = '(';
+    expect_no_text(text, 2 * nodes + 10, PLQ_NOT_TEXT, (uint32_t)(2 * nodes + 10), "a node and a bracket too many");
+    memset(text + 2 * nodes - 1, '(', 64);
+    memset(text + 2 * nodes + 63, ')', 65);
+    expect_no_text(text, 2 * nodes + 128, PLQ_TOO_NESTED, (uint32_t)(2 * nodes + 63), "nodes and levels too many");
+    memset(text, '(', PLQ_MOST_TEXT);
+    expect_no_text(text, PLQ_MOST_TEXT, PLQ_TOO_NESTED, 65, "as many opened as a text may have bytes");
+    free(text);
+}
+
+/* Every text without some of its last bytes, or with one byte that is another. */
+static void refused_texts(void)
+{
+    static const uint8_t others[] = {0, '\t', '\v', '\f', 31, 33, 39, 42, 'A', '[', 127, 128, 160, 168, 169, 255};
+    for (size_t i = 0; i < COUNT_OF(trees); i++) {
+        content text = trees[i]->use[PARENTS_OF_TEXT].before[0];
+        uint8_t *copy = must(malloc(text.bytes + 2));
+        const size_t places[] = {1, 2, text.bytes / 2, text.bytes - 1, text.bytes};
+        const size_t step = few && is_large(trees[i]) ? COUNT_OF(others) : 1;
+        memcpy(copy, text.at, text.bytes);
+        for (size_t k = 0; k < COUNT_OF(places); k++) {
+            size_t at = places[k] - 1;
+            expect_no_text(copy, at, PLQ_NOT_TEXT, (uint32_t)at + 1, "a text that is not over");
+            for (size_t other = 0; other < COUNT_OF(others); other += step) {
+                copy[at] = others[other];
+                expect_no_text(copy, text.bytes, PLQ_NOT_TEXT, (uint32_t)at + 1, "neither bracket nor blank");
+            }
+            memcpy(copy, text.at, text.bytes);
+        }
+        for (size_t bytes = text.bytes + 1; bytes <= text.bytes + 2; bytes++) {
+            copy[text.bytes] = ' ';
+            copy[bytes - 1] = '(';
+            expect_no_text(copy, bytes, PLQ_NOT_TEXT, (uint32_t)bytes, "a second tree");
+            copy[bytes - 1] = ')';
+            expect_no_text(copy, bytes, PLQ_NOT_TEXT, (uint32_t)bytes, "the root closed twice");
+        }
+        free(copy);
+    }
 }
 
 static void expect_no_image(const uint8_t *image, size_t bytes, uint32_t code, uint32_t place, const char *what)
@@ -1482,6 +1686,10 @@ static void refused_uses(void)
     refused_images();
     refused_questions();
     refused_listings();
+    refused_small_texts();
+    refused_levels();
+    refused_long_texts();
+    refused_texts();
     refused_rooms();
     for (enum call call = 0; call < CALLS; call++)
         for (size_t i = 0; calls[call].refusals[i] != 0; i++)
@@ -1515,8 +1723,64 @@ static void fill_by_chance(uint8_t *bytes, size_t count)
     for (size_t i = 0; i < count; i++) bytes[i] = (uint8_t)any_number();
 }
 
-/* Anything in every list that is read, with `length` elements in the first. Strings begin with 101 and most numbers are
- * small, so that not all of them are refused at the very first. */
+/* A text with up to `most` blanks before each of its bytes, and after the last. Gives its new
+ * number of bytes. */
+static size_t add_blanks(const uint8_t *text, size_t bytes, uint8_t *copy, size_t most)
+{
+    size_t filled = 0;
+    for (size_t at = 0; at <= bytes; at++) {
+        for (size_t blanks = below(most + 1); blanks > 0; blanks--) copy[filled++] = (uint8_t)" \n\r"[below(3)];
+        if (at < bytes) copy[filled++] = text[at];
+    }
+    return filled;
+}
+
+/* Blanks may be anywhere and mean nothing: the tree is the same. Also in as many bytes as a text
+ * may have. */
+static void blanks_anywhere(void)
+{
+    group = "blanks";
+    uint8_t *copy = must(malloc(PLQ_MOST_TEXT));
+    for (size_t i = 0; i < COUNT_OF(trees); i++) {
+        content text = trees[i]->use[PARENTS_OF_TEXT].before[0];
+        for (size_t most = 1; most <= 6; most += few ? 5 : 1) {
+            attempt a = right_attempt(trees[i], PARENTS_OF_TEXT, 0);
+            lend(&a, 0, copy, add_blanks(text.at, text.bytes, copy, most));
+            expect_done(&a, trees[i], "blanks");
+            end(&a);
+        }
+        attempt a = right_attempt(trees[i], PARENTS_OF_TEXT, 0);
+        memset(copy, '\r', PLQ_MOST_TEXT);
+        memcpy(copy + PLQ_MOST_TEXT - text.bytes, text.at, text.bytes);
+        lend(&a, 0, copy, PLQ_MOST_TEXT);
+        expect_done(&a, trees[i], "blanks before it");
+        end(&a);
+    }
+    free(copy);
+}
+
+/* One tree with blanks in it, mostly of at most 64 levels, that is over with the last byte. */
+static void fill_with_brackets(uint8_t *bytes, size_t count)
+{
+    size_t open = 0, most = 1 + below(70);
+    for (size_t i = 0; i < count; i++) {
+        size_t left = count - i;
+        int may_open = open == 0 || (open < most && open + 2 <= left);
+        if (open > 0 && open == left)
+            bytes[i] = ')';
+        else if (below(9) == 0)
+            bytes[i] = ' ';
+        else if (may_open && (open <= 1 || below(2) == 0))
+            bytes[i] = '(';
+        else
+            bytes[i] = open > 1 ? ')' : '\n';
+        if (bytes[i] == '(') open++;
+        if (bytes[i] == ')') open--;
+    }
+}
+
+/* Anything in every list that is read, with `length` elements in the first. Strings begin with 101, most texts are of
+ * brackets and most numbers are small, so that not all of them are refused at the very first. */
 static void try_random_bytes(enum call call, size_t length)
 {
     attempt a = right_attempt(&t, call, 0);
@@ -1525,6 +1789,7 @@ static void try_random_bytes(enum call call, size_t length)
         lend(&a, list, NULL, element * count);
         if (calls[call].list[list].use == WRITTEN) continue;
         fill_by_chance(a.list[list].at, element * count);
+        if (call == PARENTS_OF_TEXT && length % 4 != 0) fill_with_brackets(a.list[list].at, count);
         if (element != 4 || length % 3 == 0) continue;
         for (size_t i = 0; i < count; i++) put_number(&a, list, i, (uint32_t)below(i + 1));
     }
@@ -1594,6 +1859,7 @@ int main(int words, char **word)
     for (placement = ON_HEAP; placement < AT_AN_OFFSET; placement++) {
         if (few && placement != ON_HEAP) continue;
         all_right();
+        blanks_anywhere();
         no_lists();
         false_lengths();
         refused_uses();

@@ -1,11 +1,11 @@
 # The examples: what they print of good input and of bad, and how long they hold the lock.
 
-for name in seal phone watch; do
+for name in seal phone watch exchange; do
     compile "$root/examples/$name.c" strict -Wconversion -Wshadow -Wcast-qual -Wwrite-strings -pedantic
 done
 passed "the examples compile without a warning"
 
-cp "$root/examples/diary.txt" "$root/examples/metres.txt" .
+cp "$root/examples/diary.txt" "$root/examples/metres.txt" "$root/examples/brackets.txt" .
 cmp "$expected/diary.plq" diary.plq
 seal <diary.txt | cmp "$expected/diary.plq"
 seal -m metres.txt diary.txt with-metres.plq
@@ -38,6 +38,31 @@ for ((bit = 1; bit <= 27; bit++)); do
     grep -q '^splitting: refused ' changed.txt || fail "watch: changed bit $bit: $(cat changed.txt)"
 done
 passed "watch: joined, split and read back; each changed bit refused"
+
+exchange in brackets.txt exchanged.plq
+cmp "$expected/diary.plq" exchanged.plq
+exchange in <brackets.txt | cmp "$expected/diary.plq"
+sed 's/$/\r/' brackets.txt | exchange in | cmp "$expected/diary.plq"
+exchange out exchanged.plq exchanged.txt
+cmp "$expected/brackets.txt" exchanged.txt
+tr -d ' \n\r' <brackets.txt | cmp exchanged.txt
+for image in diary.plq with-metres.plq; do exchange out $image | cmp "$expected/brackets.txt"; done
+exchange in exchanged.txt exchanged-again.plq
+cmp "$expected/diary.plq" exchanged-again.plq
+passed "exchange: the example diary from text to the image of its parents, and from images to text without blanks"
+
+chmod 640 exchanged.plq exchanged.txt
+exchange in brackets.txt exchanged.plq
+exchange out exchanged.plq exchanged.txt
+permissions=$(stat -c %a exchanged.plq exchanged.txt)
+[ "$permissions" = $'640\n640' ] || fail "exchange: a new file has other permissions than the old one"
+for ((bytes = 0; bytes < 104; bytes++)); do
+    place=$((bytes + 1))
+    if head -c $bytes exchanged.txt | exchange in >cut.plq 2>cut.txt; then fail "exchange: $bytes bytes are taken"; fi
+    grep -q "^standard input: line 1, column $place: refused 16 $place: " cut.txt || fail "exchange: $(cat cut.txt)"
+    [ ! -s cut.plq ] || fail "exchange: something was sealed of what was cut off"
+done
+passed "exchange: permissions stay; a text that was cut off, after whichever byte, is refused there"
 
 # Runs each command of the stored transcript again: the command, what it says, how it ends.
 : >empty.plq
@@ -75,6 +100,30 @@ mix diary.plq 3 path-of-65.plq mixed-counts.plq # with two samples, and the diar
 mix path-of-65.plq 4 path-of-66.plq mixed-samples.plq
 head -c 2560 with-metres.plq >lost-metres.plq
 mix with-metres.plq 0 diary.plq metres-of-version-1.plq
+# texts of as many levels, nodes and bytes as there may be, or one more
+levels() { # LEVELS [BETWEEN]: a path of so many levels, with BETWEEN on the last one
+    awk -v levels="$1" -v between="${2-}" 'BEGIN {
+        for (i = 1; i <= levels; i++) printf "("
+        printf "%s", between
+        for (i = 1; i <= levels; i++) printf ")"
+    }'
+}
+bush() { # NODES: a root with all other nodes below it
+    awk -v nodes="$1" 'BEGIN { printf "("; for (i = 2; i <= nodes; i++) printf "()"; printf ")" }'
+}
+levels 64 >64-levels.txt
+levels 65 >65-levels.txt
+levels 64 x >64-levels-and-x.txt
+levels 65 x >65-levels-and-x.txt
+(printf '\n \r\n' && levels 65) >65-levels-later.txt
+bush 65535 >65535-brackets.txt
+bush 65536 >65536-brackets.txt
+(bush 65536 && printf ')') >65536-brackets-and-one.txt
+(bush 65535 && head -c 917506 /dev/zero | tr '\0' '\n') >longest-text.txt
+(cat longest-text.txt && printf '\n') >longer-text.txt
+sed '7s/)/]/' brackets.txt >square.txt
+sed '13s/(/\t(/' brackets.txt >tab.txt
+(cat brackets.txt && echo '()') >two-trees.txt
 seq 0 64 | seal -m 65-metres.txt >path-of-65-with-metres.plq
 mix with-metres.plq 5 path-of-65-with-metres.plq mixed-metres.plq # with 65 numbers, and the diary has 52
 
@@ -104,8 +153,14 @@ replaced_while_shown() { # PHONE SECONDS: within so many seconds the container i
 }
 replaced_while_shown "$bin/phone" 20 || fail "phone: the container stays locked while the diary is shown"
 cmp "$expected/diary.plq" container.plq
-grep -v '^    unlock_container(lock);$' "$root/examples/phone.c" >phone-that-keeps-the-lock.c
-compile phone-that-keeps-the-lock.c phone-that-keeps-the-lock -I"$root/examples"
+mkdir keeps-the-lock
+cp "$root/examples/phone.c" "$root/examples/refusal.h" keeps-the-lock
+awk '
+    / copy_container\(/ { copying = 1 }
+    !(copying && $0 == "    unlock_container(lock);") { print }
+    /^}/ { copying = 0 }' "$root/examples/container.h" >keeps-the-lock/container.h
+if cmp -s "$root/examples/container.h" keeps-the-lock/container.h; then fail "locks: copying does not unlock"; fi
+compile keeps-the-lock/phone.c phone-that-keeps-the-lock
 if replaced_while_shown ./phone-that-keeps-the-lock 1; then fail "locks: a phone that keeps the lock is not seen"; fi
 passed "locks: the container is free while the phone shows its copy; a phone that keeps the lock is seen"
 

@@ -9,6 +9,7 @@
 static uint32_t parents[PLQ_MOST_NODES], back[PLQ_MOST_NODES], pairs[PLQ_LISTING_NUMBERS(PLQ_MOST_NODES)];
 static uint32_t metres[PLQ_MOST_NODES];
 static uint8_t image[PLQ_IMAGE_ROOM(PLQ_MOST_NODES)], string[PLQ_STRING_BYTES(PLQ_MOST_NODES)];
+static uint8_t text[PLQ_TEXT_BYTES(PLQ_MOST_NODES)], long_text[1048576 + 1];
 static uint8_t with_metres[PLQ_IMAGE_ROOM(PLQ_MOST_NODES) + PLQ_METRES_BYTES(PLQ_MOST_NODES)];
 _Static_assert(PLQ_IMAGE_BYTES(1, 1) == 2560, "the smallest image");
 _Static_assert(PLQ_IMAGE_BYTES(3999, 2) == 2560 && PLQ_IMAGE_BYTES(4000, 2) == 3072, "R0 has one bit more than R1");
@@ -23,6 +24,8 @@ _Static_assert(PLQ_STRING_BITS(7) == 15 && PLQ_STRING_BYTES(7) == 2, "the string
 _Static_assert(PLQ_STRING_BITS(PLQ_MOST_NODES) == PLQ_MOST_BITS, "the longest string");
 _Static_assert(PLQ_BYTES_OF_BITS(0) == 0 && PLQ_BYTES_OF_BITS(8) == 1 && PLQ_BYTES_OF_BITS(9) == 2, "whole bytes");
 _Static_assert(PLQ_BYTES_OF_BITS(SIZE_MAX) == SIZE_MAX / 8 + 1, "no sum wraps");
+_Static_assert(PLQ_TEXT_BYTES(7) == 14 && PLQ_TEXT_BYTES(PLQ_MOST_NODES) == 131070, "two brackets a node");
+_Static_assert(PLQ_NOT_TEXT == 16 && PLQ_TOO_NESTED == 17, "the codes of a text");
 _Static_assert(sizeof(PLQ_IMAGE_BYTES(1, 1)) == sizeof(size_t), "the type of a size");
 _Static_assert(sizeof(plq_question) == 3 * sizeof(int32_t) && sizeof(plq_answer) == 4 * sizeof(uint32_t), "no gaps");
 
@@ -103,6 +106,42 @@ static void try_listing(size_t n, size_t m)
     expect("a number less", n, m, plq_list(image, bytes, 1, pairs, numbers - 1).code == PLQ_NO_ROOM);
 }
 
+/* Of the trees here, which have m levels, those of at most 64 have a text; of others node 65 is the
+ * first at depth 64. */
+static void try_text(size_t n, size_t m)
+{
+    size_t bytes = PLQ_TEXT_BYTES(n), room = at_most(bytes, sizeof text);
+    plq_answer made = plq_text_of_parents(parents, n, text, room);
+    if (m > 64) {
+        expect("PLQ_TOO_DEEP of a text", n, m, made.code == PLQ_TOO_DEEP && made.place == 65);
+        return;
+    }
+    expect("PLQ_TEXT_BYTES", n, m, made.code == PLQ_DONE && made.first == bytes && made.second == 0);
+    expect("a byte less", n, m, plq_text_of_parents(parents, n, text, bytes - 1).code == PLQ_NO_ROOM);
+    plq_answer read = plq_parents_of_text(text, room, back, n);
+    expect("the text read back", n, m, read.code == PLQ_DONE && read.first == n && read.second == 0);
+    expect("its parents", n, m, memcmp(parents, back, n * sizeof *back) == 0);
+    expect("a number less", n, m, plq_parents_of_text(text, room, back, n - 1).code == PLQ_NO_ROOM);
+    read = plq_parents_of_text(text, room - 1, back, n);
+    expect("PLQ_NOT_TEXT", n, m, read.code == PLQ_NOT_TEXT && read.place == room);
+}
+
+/* The longest text, most of it blanks, and one a byte longer; and one that opens a level too many.
+ * */
+static void try_long_texts(void)
+{
+    const size_t most = sizeof long_text - 1;
+    memset(long_text, ' ', most + 1);
+    memcpy(long_text + most - 2, "()", 2);
+    plq_answer read = plq_parents_of_text(long_text, at_most(PLQ_MOST_TEXT, most), back, 1);
+    expect("PLQ_MOST_TEXT", most, 0, PLQ_MOST_TEXT == most && read.code == PLQ_DONE && read.first == 1);
+    read = plq_parents_of_text(long_text, most + 1, back, 1);
+    expect("a text of a byte more", most + 1, 0, read.code == PLQ_WRONG_SIZE && read.place == 0);
+    memset(long_text, '(', 65);
+    read = plq_parents_of_text(long_text, 65, back, PLQ_MOST_NODES);
+    expect("PLQ_TOO_NESTED", 65, 0, read.code == PLQ_TOO_NESTED && read.place == 65);
+}
+
 static void try_tree(size_t n, size_t m)
 {
     if (n > PLQ_MOST_NODES || m > n || (n > 1 && m < 2)) return;
@@ -111,6 +150,7 @@ static void try_tree(size_t n, size_t m)
     try_image(n, m);
     if (m <= 2 || m == n) try_metres(n, m); /* their bytes do not depend on m */
     if (m <= 64) try_listing(n, m);
+    try_text(n, m);
 }
 
 /* Every n up to 300 with every m, and n and m around each number at which an image gets another block. */
@@ -174,8 +214,8 @@ static int same_text(uint32_t code, uint32_t other) { return strcmp(plq_code_tex
 /* Each code has a text of its own, and all numbers that are no code have one; 7 is none, since it is retired. */
 static void try_texts(void)
 {
-    static const uint32_t unknown[] = {7, 16, 17, 99, 255, 256, 1u << 16, 1u << 31, UINT32_MAX};
-    for (uint32_t code = PLQ_DONE; code <= PLQ_WRONG_SAMPLES; code++) {
+    static const uint32_t unknown[] = {7, 18, 19, 99, 255, 256, 1u << 16, 1u << 31, UINT32_MAX};
+    for (uint32_t code = PLQ_DONE; code <= PLQ_TOO_NESTED; code++) {
         if (code == 7) continue;
         expect("a text", code, 0, plq_code_text(code)[0] != '\0' && !same_text(code, UINT32_MAX));
         for (uint32_t other = PLQ_DONE; other < code; other++)
@@ -187,14 +227,15 @@ static void try_texts(void)
 
 static void try_version(void)
 {
-    char text[32];
-    snprintf(text, sizeof text, "%d.%d.%d", PLQ_VERSION_MAJOR, PLQ_VERSION_MINOR, PLQ_VERSION_PATCH);
-    expect("PLQ_VERSION_STRING", 0, 0, strcmp(text, PLQ_VERSION_STRING) == 0);
+    char version[32];
+    snprintf(version, sizeof version, "%d.%d.%d", PLQ_VERSION_MAJOR, PLQ_VERSION_MINOR, PLQ_VERSION_PATCH);
+    expect("PLQ_VERSION_STRING", 0, 0, strcmp(version, PLQ_VERSION_STRING) == 0);
 }
 
 int main(void)
 {
     try_trees();
+    try_long_texts();
     try_words();
     try_questions();
     try_texts();

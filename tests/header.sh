@@ -13,6 +13,7 @@ constexpr size_t bits = PLQ_STRING_BITS(ROOM);
 static_assert(PLQ_IMAGE_BYTES(PLQ_MOST_NODES, PLQ_MOST_NODES) == PLQ_MOST_TREE_IMAGE_BYTES, "without metres");
 static_assert(PLQ_IMAGE_ROOM(PLQ_MOST_NODES) + PLQ_METRES_BYTES(PLQ_MOST_NODES) == PLQ_MOST_IMAGE_BYTES, "the largest");
 static_assert(PLQ_BYTES_OF_BITS(bits) == PLQ_STRING_BYTES(ROOM) && PLQ_LISTING_NUMBERS(ROOM + 1) == 202, "sizes");
+static_assert(PLQ_TEXT_BYTES(PLQ_MOST_NODES) < PLQ_MOST_TEXT, "every text without blanks is short enough");
 uint8_t image[PLQ_IMAGE_ROOM(ROOM)];
 uint32_t first_child(int32_t node);
 uint32_t first_child(int32_t node)
@@ -62,6 +63,11 @@ fault_is_seen "bytes rounded down" 's/ + (PLQ_SIZE_(all) % (share) != 0)//'
 fault_is_seen "bytes rounded up by an addition that wraps" \
     's|(PLQ_SIZE_(all) / (share) + (PLQ_SIZE_(all) % (share) != 0))|((PLQ_SIZE_(all) + (share) - 1) / (share))|'
 fault_is_seen "a listing of nodes without depths" 's/PLQ_LISTING_NUMBERS(n) (2 \*/PLQ_LISTING_NUMBERS(n) (1 */'
+fault_is_seen "a text of one byte a node" 's/PLQ_TEXT_BYTES(n) (2 \*/PLQ_TEXT_BYTES(n) (1 */'
+fault_is_seen "a text with a 0 after it" '/define PLQ_TEXT_BYTES/s/PLQ_SIZE_(n)/PLQ_SIZE_(n) + 1/'
+fault_is_seen "a shorter text" 's/PLQ_MOST_TEXT = 1048576/PLQ_MOST_TEXT = 1048575/'
+fault_is_seen "a longer text" 's/PLQ_MOST_TEXT = 1048576/PLQ_MOST_TEXT = 1048577/'
+fault_is_seen "the codes of a text exchanged" 's/PLQ_NOT_TEXT = 16/PLQ_NOT_TEXT = 17/;s/_NESTED = 17/_NESTED = 16/'
 fault_is_seen "the number of blocks from one byte" 's/int byte = 15; byte >= 12/int byte = 12; byte >= 12/'
 fault_is_seen "the number of blocks with its high byte first" 's/blocks + image\[byte\]/blocks + image[27 - byte]/'
 fault_is_seen "numbers in the place of questions" 's/numbers, 3 \* counted, answers/numbers, counted, answers/'
@@ -69,7 +75,7 @@ fault_is_seen "two codes with one text" 's/case PLQ_NO_ROOM: return "[^"]*"/case
 fault_is_seen "a code without a text" '/case PLQ_LEFTOVER_SET: return/d'
 fault_is_seen "a text for the number that is retired" '/case PLQ_NO_ROOM: return/s/case/case 7: return "7"; &/'
 fault_is_seen "a version string of another version" 's/PLQ_VERSION_STRING "[0-9]*/&9/'
-passed "header: 22 faults in its macros and functions are seen"
+passed "header: 27 faults in its macros and functions are seen"
 
 # An answer that nobody looks at.
 does_not_compile() { # MESSAGE LINE: with LINE in a function a program does not compile, and the compiler says MESSAGE
@@ -84,7 +90,8 @@ for line in 'plq_string_of_parents(list, 1, image, 1);' 'plq_parents_of_string(i
     'plq_parents_of_image(image, 2560, list, 1);' 'plq_metres_of_image(image, 3072, list, 1);' \
     'plq_check_image(image, 2560);' 'plq_ask(image, 2560, 0, 0, list, 0);' \
     'plq_split(image, 0, 0, 0, list, 0, list, 0);' 'plq_join(image, 1, 0, 0, list, 1);' \
-    'plq_list(image, 2560, 1, list, 2);' 'plq_ask_questions(image, 2560, 0, 0, list, 0);' \
+    'plq_list(image, 2560, 1, list, 2);' 'plq_parents_of_text(image, 2, list, 1);' \
+    'plq_text_of_parents(list, 1, image, 2);' 'plq_ask_questions(image, 2560, 0, 0, list, 0);' \
     'plq_image_bytes(image);' 'plq_code_text(1);'; do
     does_not_compile "unused-result" "$line"
 done

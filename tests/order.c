@@ -1,10 +1,11 @@
-/* Each of the eleven calls once through the header, done, and one refusal: with lists and numbers that are all
+/* Each of the thirteen calls once through the header, done, and one refusal: with lists and numbers that are all
  * different, so that two parameters of a call, or two fields of the answer, that the header had in another order than
  * the library would give other answers or other lists. tests/order.sh compiles it with every such exchange and expects
  * that it is seen. It is not among the examples, since it shows nobody how to use the calls.
  *
  * What is expected is that of docs/FORMAT.md: T has parents 0 1 1 1 2 2 4, string 101110110010000 (bytes BB 20) and
- * m = 4, and its metres are 10 20 .. 70; the path 0 1 2 has string 1010100. Exit status: 0 if all is as expected. */
+ * m = 4, its metres are 10 20 .. 70, and its text is ((()())()(())); the path 0 1 2 has string 1010100.
+ * Exit status: 0 if all is as expected. */
 #include <parlaqen.h>
 #include <stdio.h>
 #include <string.h>
@@ -58,6 +59,7 @@ int main(void)
     static const uint32_t t[] = {0, 1, 1, 1, 2, 2, 4}, no_list[] = {0, 1, 2, 1}, path[] = {0, 1, 2};
     static const uint8_t string_of_t[] = {0xBB, 0x20};
     static const uint8_t t_and_one[] = {0xBB, 0x21, 0x00}, t_and_path[] = {0xBB, 0x21, 0x50};
+    static const char text_of_t[] = "((()())()(()))";
     static const int32_t asked[] = {PLQ_PARENT, 7, 0, PLQ_CHILD_NUMBER, 2, 2};
     static const uint32_t metres_of_t[] = {10, 20, 30, 40, 50, 60, 70};
     static const uint32_t sums[][2] = {{17, 2112}, {151, 18876}, {211, 26377}, {4, 504}, {5, 630}};
@@ -116,6 +118,13 @@ int main(void)
     afresh();
     expect("plq_list", answers(plq_list(image, 2560, 2, first_list, 7), PLQ_DONE, 0, 3, 0));
     expect("its pairs", has(first_list, listed, sizeof listed));
+
+    afresh();
+    expect("plq_text_of_parents", answers(plq_text_of_parents(parents, 7, pack, 20), PLQ_DONE, 0, 14, 0));
+    expect("its text", has(pack, text_of_t, 14));
+
+    expect("plq_parents_of_text", answers(plq_parents_of_text(pack, 14, first_list, 9), PLQ_DONE, 0, 7, 0));
+    expect("its parents", has(first_list, t, sizeof t));
 
     memcpy(first_list, no_list, sizeof no_list);
     expect("a refusal", answers(plq_string_of_parents(first_list, 4, pack, 5), PLQ_NOT_PARENTS, 4, 0, 0));

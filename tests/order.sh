@@ -42,6 +42,8 @@ plq_ask ab cd ef
 plq_split ab c d ef gh
 plq_join ab c d ef
 plq_list ab c de
+plq_parents_of_text ab cd
+plq_text_of_parents ab cd
 CALLS
 }
 
@@ -56,7 +58,7 @@ exchange_is_seen() { # EXCHANGE WORDS..: tests/order.c, compiled with these word
 # The parameters of a call and the fields of its answer have the order in the header that they have in the library.
 compile "$root/tests/order.c" order
 ./order
-passed "order: the eleven calls through the header, with lists and numbers that are all different"
+passed "order: the thirteen calls through the header, with lists and numbers that are all different"
 
 count=0
 exchanges >exchanges.txt

@@ -21,6 +21,7 @@ prints README.md ten ten.out
 prints docs/INTEGRATE.md nested nested.out
 prints docs/INTEGRATE.md one_file one_file.out
 prints docs/INTEGRATE.md place place.out
+prints docs/INTEGRATE.md text text.out
 
 block_of README.md ten.rs
 mkdir -p ten-rs/src

@@ -1,11 +1,11 @@
 /* How much stack does each call take? Each is made on a painted stack of its own, and the deepest byte that changed is
  * looked for. What the same way down takes with nothing in the place of the call is subtracted.
  *
- *     stack CALL BYTES [CALL BYTES ..]     what is claimed of each of the eleven calls
+ *     stack CALL BYTES [CALL BYTES ..]     what is claimed of each of the thirteen calls
  *
  * A claim must have room to spare: it is at least one and a half times what is measured, since another compiler, or
- * another machine, may take more. The inputs are those that go deepest: trees of 64 levels, the largest trees and
- * packs, with metres and without, as many trees and questions as there may be, and refusals that come late.
+ * another machine, may take more. The inputs are those that go deepest: trees and texts of 64 levels, the largest trees
+ * and packs, with metres and without, as many trees and questions as there may be, and refusals that come late.
  * It prints a table, and a line for each claim that does not hold. Exit status: 0 if all hold. */
 #define _DEFAULT_SOURCE /* MAP_ANONYMOUS, and ucontext with -std=c11 */
 #include <parlaqen.h>
@@ -28,6 +28,8 @@ enum call {
     SPLIT,
     JOIN,
     LIST,
+    PARENTS_OF_TEXT,
+    TEXT_OF_PARENTS,
     CALLS,
     NOTHING = CALLS,
     KNOWN
@@ -36,7 +38,8 @@ enum call {
 static const char *const names[CALLS] = {"plq_string_of_parents", "plq_parents_of_string", "plq_image_of_parents",
                                          "plq_image_with_metres", "plq_parents_of_image",  "plq_metres_of_image",
                                          "plq_check_image",       "plq_ask",               "plq_split",
-                                         "plq_join",              "plq_list"};
+                                         "plq_join",              "plq_list",              "plq_parents_of_text",
+                                         "plq_text_of_parents"};
 
 /* One call: numbers, and the two kinds of lists. What is written goes to lists that are long enough for everything.
  * Where metres are taken, there are as many as parents. */
@@ -83,6 +86,8 @@ __attribute__((noinline)) static plq_answer make_call(const input *in)
         return plq_split(in->bytes, in->nbytes, in->bits, in->trees, numbers_written, in->room, more_numbers, in->room);
     case JOIN: return plq_join(bytes_written, in->room, in->bits, in->trees, in->parents, in->n);
     case LIST: return plq_list(in->bytes, in->nbytes, in->node, numbers_written, in->room);
+    case PARENTS_OF_TEXT: return plq_parents_of_text(in->bytes, in->nbytes, numbers_written, in->room);
+    case TEXT_OF_PARENTS: return plq_text_of_parents(in->parents, in->n, bytes_written, in->room);
     case KNOWN: return take_known_bytes();
     default: return (plq_answer){0, 0, 0, 0};
     }
@@ -355,6 +360,69 @@ static void write_and_read(const uint32_t *parents, size_t n)
     measure(split);
 }
 
+static size_t levels_of(const uint32_t *parents, size_t n)
+{
+    size_t levels = 1, first_of_level = 1;
+    for (size_t node = 2; node <= n; node++)
+        if (parents[node - 1] >= first_of_level) {
+            levels++;
+            first_of_level = node;
+        }
+    return levels;
+}
+
+static void read_text(const uint8_t *text, size_t nbytes, size_t room, uint32_t code)
+{
+    measure((input){.call = PARENTS_OF_TEXT, .bytes = text, .nbytes = nbytes, .room = room, .code = code});
+}
+
+/* The text of a tree, if it has one, written and read, with refusals at its very end: one bracket
+ * more, one less, and a byte that is none. */
+static void write_and_read_text(const uint32_t *parents, size_t n)
+{
+    static uint8_t text[PLQ_TEXT_BYTES(PLQ_MOST_NODES) + 1];
+    size_t bytes = PLQ_TEXT_BYTES(n);
+    input write = {.call = TEXT_OF_PARENTS, .parents = parents, .n = n, .room = bytes};
+    write.code = levels_of(parents, n) <= LEVELS ? PLQ_DONE : PLQ_TOO_DEEP;
+    measure(write);
+    if (plq_text_of_parents(parents, n, text, bytes).code != PLQ_DONE) return;
+    read_text(text, bytes, n, PLQ_DONE);
+    write.room = bytes - 1;
+    write.code = PLQ_NO_ROOM;
+    measure(write);
+    read_text(text, bytes, n - 1, PLQ_NO_ROOM);
+    read_text(text, bytes - 1, n, PLQ_NOT_TEXT);
+    text[bytes] = '(';
+    read_text(text, bytes + 1, n, PLQ_NOT_TEXT);
+    for (size_t at = bytes / 2; at < bytes; at += bytes / 8 + 1) {
+        uint8_t right = text[at];
+        text[at] = 'x';
+        read_text(text, bytes, n, PLQ_NOT_TEXT);
+        text[at] = right;
+    }
+}
+
+/* Texts that no tree of at most 65,535 nodes gives: too many levels, whole or only opened, and too
+ * many nodes, on a second level and on the last one. */
+static void refuse_texts(void)
+{
+    enum { NODES = PLQ_MOST_NODES + 1 };
+    static uint8_t text[PLQ_MOST_TEXT];
+    memset(text, '(', sizeof text);
+    read_text(text, LEVELS, PLQ_MOST_NODES, PLQ_NOT_TEXT);
+    read_text(text, sizeof text, PLQ_MOST_NODES, PLQ_TOO_NESTED);
+    memset(text + LEVELS + 1, ')', LEVELS + 1);
+    read_text(text, 2 * (LEVELS + 1), PLQ_MOST_NODES, PLQ_TOO_NESTED);
+    for (size_t above = 1; above < LEVELS; above += LEVELS - 2) {
+        memset(text, '(', above);
+        for (size_t i = 0; i < NODES - above; i++) memcpy(text + above + 2 * i, "()", 2);
+        memset(text + 2 * NODES - above, ')', above);
+        read_text(text, 2 * NODES, PLQ_MOST_NODES, PLQ_WRONG_SIZE);
+    }
+    memset(text, ' ', sizeof text);
+    read_text(text, sizeof text, PLQ_MOST_NODES, PLQ_NOT_TEXT);
+}
+
 /* A list that is none only by its last entry. */
 static void refuse_parents(uint32_t *parents, size_t n)
 {
@@ -362,7 +430,8 @@ static void refuse_parents(uint32_t *parents, size_t n)
     uint32_t last = parents[n - 1];
     parents[n - 1] = (uint32_t)n;
     for (enum call call = 0; call < CALLS; call++)
-        if (call == STRING_OF_PARENTS || call == IMAGE_OF_PARENTS || call == IMAGE_WITH_METRES || call == JOIN)
+        if (call == STRING_OF_PARENTS || call == IMAGE_OF_PARENTS || call == IMAGE_WITH_METRES || call == JOIN ||
+            call == TEXT_OF_PARENTS)
             measure((input){.call = call, .parents = parents, .n = n, .bytes = empty, .room = PLQ_MOST_IMAGE_BYTES,
                             .code = PLQ_NOT_PARENTS});
     parents[n - 1] = last;
@@ -374,6 +443,7 @@ static void use_tree(void (*make)(uint32_t *parents, size_t n), size_t n, uint32
     make(parents, n);
     seal_and_read(parents, n, listed, code_of_listing);
     write_and_read(parents, n);
+    write_and_read_text(parents, n);
     refuse_parents(parents, n);
 }
 
@@ -422,6 +492,7 @@ static void use_all(void)
     use_pack(make_path, 255);
     use_pack(make_fours, 255);
     refuse_image(bytes_written, PLQ_MOST_IMAGE_BYTES + 1, PLQ_WRONG_SIZE);
+    refuse_texts();
 }
 
 /* ---- Claims ---- */

@@ -1,6 +1,6 @@
 /* Sixteen threads use one sealed image at the same time: each asks, lists, checks and reads parents and metres back,
  * into lists of its own, and compares with what it was made of. In between each seals, joins and splits data of its
- * own.
+ * own, and writes it as text and reads it.
  *
  *     threads [ROUNDS]     how often each thread does all of it
  *
@@ -38,7 +38,7 @@ struct worker {
     uint32_t pairs[2 * NODES], read_back[NODES];
     uint32_t own_parents[OWN_NODES], own_metres[OWN_NODES];
     uint8_t own_image[PLQ_IMAGE_ROOM(OWN_NODES) + PLQ_METRES_BYTES(OWN_NODES)];
-    uint8_t own_string[PLQ_STRING_BYTES(OWN_NODES)];
+    uint8_t own_string[PLQ_STRING_BYTES(OWN_NODES)], own_text[PLQ_TEXT_BYTES(OWN_NODES)];
     uint8_t pack[PLQ_BYTES_OF_BITS(PACKED * PLQ_STRING_BITS(OWN_NODES))];
 };
 
@@ -189,7 +189,7 @@ static void read_own(struct worker *worker, plq_answer sealed, uint32_t n, uint3
     }
 }
 
-/* A tree that no other thread has, as a string and as an image, without metres and with them, and back. */
+/* A tree that no other thread has, as a string, as text and as an image, without metres and with them, and back. */
 static void seal_own(struct worker *worker)
 {
     uint32_t n = 1 + number_below(&worker->chance, OWN_NODES), with_children = 0;
@@ -210,6 +210,13 @@ static void seal_own(struct worker *worker)
         plq_parents_of_string(worker->own_string, PLQ_STRING_BYTES(n), 2 * n + 1, worker->read_back, NODES);
     expect(worker, "plq_parents_of_string", answers(read, n, 0));
     expect(worker, "its own parents by string", memcmp(worker->read_back, worker->own_parents, 4 * (size_t)n) == 0);
+
+    plq_answer text = plq_text_of_parents(worker->own_parents, n, worker->own_text, sizeof worker->own_text);
+    expect(worker, "plq_text_of_parents", answers(text, 2 * n, 0));
+    memset(worker->read_back, 0, 4 * (size_t)n);
+    read = plq_parents_of_text(worker->own_text, PLQ_TEXT_BYTES(n), worker->read_back, NODES);
+    expect(worker, "plq_parents_of_text", answers(read, n, 0));
+    expect(worker, "its own parents by text", memcmp(worker->read_back, worker->own_parents, 4 * (size_t)n) == 0);
 }
 
 /* Trees of its own, end to end, and where each of them begins. */

@@ -1,4 +1,4 @@
-//! The eleven calls of the linked library.
+//! The thirteen calls of the linked library.
 
 use crate::compare::call::Call;
 use crate::model::answers::Answer;
@@ -41,6 +41,8 @@ extern "C" {
     ) -> Answer;
     fn plq_join(pack: *mut u8, nbytes: usize, bits: usize, trees: usize, parents: *const u32, n: usize) -> Answer;
     fn plq_list(image: *const u8, nbytes: usize, node: u32, pairs: *mut u32, room: usize) -> Answer;
+    fn plq_parents_of_text(text: *const u8, nbytes: usize, parents: *mut u32, room: usize) -> Answer;
+    fn plq_text_of_parents(parents: *const u32, n: usize, text: *mut u8, room: usize) -> Answer;
 
     fn signal(number: c_int, handler: extern "C" fn(c_int)) -> usize;
 }
@@ -196,6 +198,18 @@ impl Library {
                 let lent_pairs = second.lend(pairs, placement);
                 let answer = unsafe { plq_list(lent_image, image.len(), *node, lent_pairs, pairs.len()) };
                 Returned { answer, neighbours_kept: first.take_back(image) & second.take_back(pairs) }
+            }
+            Call::ParentsOfText { text, parents } => {
+                let lent_text = first.lend(text, placement);
+                let lent_parents = second.lend(parents, placement);
+                let answer = unsafe { plq_parents_of_text(lent_text, text.len(), lent_parents, parents.len()) };
+                Returned { answer, neighbours_kept: first.take_back(text) & second.take_back(parents) }
+            }
+            Call::TextOfParents { parents, text } => {
+                let lent_parents = first.lend(parents, placement);
+                let lent_text = second.lend(text, placement);
+                let answer = unsafe { plq_text_of_parents(lent_parents, parents.len(), lent_text, text.len()) };
+                Returned { answer, neighbours_kept: first.take_back(parents) & second.take_back(text) }
             }
         }
     }

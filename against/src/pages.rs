@@ -16,8 +16,8 @@ const FRESH_MEMORY: c_int = 0x02 | 0x20;
 
 /// Unreadable bytes on both sides; whole pages for every page size of today's machines.
 const GUARD: usize = 64 * 1024;
-/// Room for the longest list lent anywhere.
-const USABLE: usize = 1024 * 1024;
+/// Room for the longest list lent anywhere: a text that is a byte too long.
+const USABLE: usize = 2 * 1024 * 1024;
 /// How many bytes next to a list are watched.
 const WATCHED: usize = 64;
 const PATTERN: u8 = 0xA5;

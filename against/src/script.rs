@@ -1,9 +1,9 @@
 //! The script of the program `cases`, run through the model: what the program must print for it.
 //!
-//! A line is a word and numbers. A tree, metres for its nodes, and bytes in hand (a string, a pack or an image), stay
-//! from line to line. Each line is printed, and below it what the call answered and every list that it wrote to, which
-//! held 9s before. What the words mean is the program's to say (`main.rt` of crate `cases`, `material.rt` of
-//! `cases_script`); what the calls answer and write comes from the model alone.
+//! A line is a word and numbers. A tree, metres for its nodes, and bytes in hand (a string, a pack, an image or a
+//! text), stay from line to line. Each line is printed, and below it what the call answered and every list that it
+//! wrote to, which held 9s before. What the words mean is the program's to say (`main.rt` of crate `cases`,
+//! `material.rt` of `cases_script`); what the calls answer and write comes from the model alone.
 
 use crate::model::answers::{number, Answer, Counts, Refusal};
 use crate::model::calls;
@@ -95,8 +95,13 @@ impl Run {
                     seal(&mut self.bytes[..blocks * BLOCK_BYTES]);
                 }
             }
-            "encode" | "image" | "survey" | "join" => self.make(word, &numbers),
-            "decode" | "unseal" | "distances" | "ask" | "list" => self.read(word, &numbers),
+            "pad" => {
+                let end = numbers.room(0, BYTES);
+                let begin = numbers.room(1, end);
+                self.bytes[begin..end].fill(numbers.at(2) as u8);
+            }
+            "encode" | "image" | "survey" | "text" | "join" => self.make(word, &numbers),
+            "decode" | "unseal" | "distances" | "ask" | "list" | "untext" => self.read(word, &numbers),
             "check" => {
                 let result = calls::check_image(self.lent(&numbers));
                 self.answered(result);
@@ -117,7 +122,8 @@ impl Run {
         &self.bytes[..numbers.room(0, BYTES)]
     }
 
-    /// The tree's string in hand, its image without metres or with so many, or its string after the pack in hand.
+    /// The tree's string in hand, its image without metres or with so many, its text, or its string after the pack in
+    /// hand.
     fn make(&mut self, word: &str, numbers: &Numbers) {
         let parents = &self.parents[..numbers.room(0, NODES)];
         let room = numbers.room(1, BYTES);
@@ -131,6 +137,7 @@ impl Run {
             "encode" => calls::string_of_parents(parents, output),
             "image" => calls::image_of_parents(parents, output),
             "survey" => calls::image_with_metres(parents, &self.metres[..numbers.room(2, NODES)], output),
+            "text" => calls::text_of_parents(parents, output),
             _ => calls::join(output, numbers.size(2), numbers.size(3), parents),
         };
         let written = output.to_vec();
@@ -146,12 +153,13 @@ impl Run {
             "unseal" => calls::parents_of_image(lent, &mut list),
             "distances" => calls::metres_of_image(lent, &mut list),
             "ask" => calls::ask(lent, &numbers.signed_from(2), &mut list),
+            "untext" => calls::parents_of_text(lent, &mut list),
             _ => calls::list(lent, numbers.at(2), &mut list),
         };
         self.answered(result);
         self.list("list", &list);
         let planted = match word {
-            "unseal" => &self.parents,
+            "unseal" | "untext" => &self.parents,
             "distances" => &self.metres,
             _ => return,
         };

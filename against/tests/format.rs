@@ -20,6 +20,7 @@ use against::model::outline::{MOST_BLOCKS_READ, MOST_NODES_LISTED};
 use against::model::packs::{parts_of_bits, MOST_TREES};
 use against::model::questions::MOST_QUESTIONS;
 use against::model::strings::{string_of_tree, MOST_BITS};
+use against::model::texts::{text_of_tree, BLANKS, CLOSES, MOST_TEXT_BYTES, OPENS};
 use against::model::trees::{Tree, MOST_NODES};
 use std::collections::{BTreeMap, BTreeSet};
 use std::iter::Peekable;
@@ -847,6 +848,15 @@ impl Both {
         };
         (1..).find(|&n| !listed(self, n + 1)).expect("some path is too deep") - 1
     }
+
+    /// The most levels that a text can have, by trying paths.
+    fn most_levels(&mut self) -> usize {
+        let read = |both: &mut Both, n: usize| {
+            let text = ["(".repeat(n), ")".repeat(n)].concat().into_bytes();
+            both.run(Call::ParentsOfText { text, parents: vec![0; n] }).0.code == 0
+        };
+        (1..).find(|&n| !read(self, n + 1)).expect("some path has too many levels")
+    }
 }
 
 fn image_of_shape(shape: Shape, n: usize) -> Vec<u8> {
@@ -970,6 +980,7 @@ impl Known {
             tables_of_images(&mut both),
             tables_of_t(&mut both, &t),
             tables_of_packs(&mut both),
+            tables_of_texts(&mut both, &t),
             tables_of_numbers(&mut both, &header),
             tables_of_damage(&mut both),
         ];
@@ -1233,6 +1244,62 @@ fn tables_of_packs(both: &mut Both) -> Tables {
     ]
 }
 
+fn tables_of_texts(both: &mut Both, t: &Example) -> Tables {
+    let bytes = [OPENS, CLOSES].into_iter().chain(BLANKS);
+    let bytes = bytes.map(|byte| row![byte_text(&[byte]), byte, WORDS, WORDS]);
+
+    let of_t = String::from_utf8(text_of_tree(&t.tree).expect("on few levels")).expect("brackets");
+    let listing = both.run(Call::List { image: t.image.clone(), node: 1, pairs: vec![0; 2 * t.n()] }).1;
+    let Call::List { pairs, .. } = listing else { unreachable!("the same call") };
+    let opening = of_t.match_indices('(').map(|(before, _)| before + 1);
+    let brackets = opening.zip(pairs.chunks(2)).enumerate().map(|(index, (byte, listed))| {
+        let (node, depth) = (listed[0] as usize, listed[1]);
+        row![index + 1, byte, depth + 1, node, t.tree.parent(node)]
+    });
+
+    let levels = both.most_levels();
+    let mut read = |text: &str| {
+        let call = Call::ParentsOfText { text: text.as_bytes().to_vec(), parents: vec![0; MOST_NODES] };
+        both.run(call).0
+    };
+    let small = [&of_t, "( (() ()) () (()) )", "", "(", ")", "()(", "(()))", "( )x", "[()]", &of_t[..of_t.len() - 1]];
+    let small = small.map(|text| {
+        let answer = read(text);
+        row![or_none(text.into()), answer.code, answer.place, WORDS]
+    });
+
+    let (open, close) = (|count| "(".repeat(count), |count| ")".repeat(count));
+    let nested = |levels: usize| open(levels) + &close(levels);
+    let star = |leaves: usize| ["(", &"()".repeat(leaves), ")"].concat();
+    let one_node = |bytes: usize| "()".to_string() + &" ".repeat(bytes - 2);
+    let (more, most_leaves) = (levels + 1, MOST_NODES - 1);
+    let too_many = grouped(most_leaves + 1);
+    let whole = [
+        ("three blanks".into(), " \r\n".into()),
+        (format!("{levels} opening brackets, then {levels} closing ones"), nested(levels)),
+        (format!("{more} opening brackets, then {more} closing ones"), nested(more)),
+        (format!("{more} opening brackets, then a wrong byte"), open(more) + "x"),
+        (format!("{levels} opening brackets, then a wrong byte"), open(levels) + "x"),
+        (format!("{levels} opening brackets alone"), open(levels)),
+        (format!("a root with {} leaves", grouped(most_leaves)), star(most_leaves)),
+        (format!("a root with {too_many} leaves"), star(most_leaves + 1)),
+        (format!("a root with {too_many} leaves, then a bracket too many"), star(most_leaves + 1) + ")"),
+        ("one node, then blanks".into(), one_node(MOST_TEXT_BYTES)),
+        ("one node, then blanks, one more of them".into(), one_node(MOST_TEXT_BYTES + 1)),
+        ("wrong bytes alone, as many".into(), "x".repeat(MOST_TEXT_BYTES + 1)),
+    ];
+    let whole = whole.map(|(name, text): (String, String)| {
+        let answer = read(&text);
+        row![name, grouped(text.len()), answer.code, grouped(answer.place as usize)]
+    });
+    vec![
+        ("| byte | in decimal | what it is | what it means |", bytes.collect()),
+        ("| bracket | its byte | level of its node | node | parent |", brackets.collect()),
+        ("| text | code | place | why |", small.to_vec()),
+        ("| text in words | bytes | code | place |", whole.to_vec()),
+    ]
+}
+
 /// The number that the header gives to a name.
 fn constant(header: &str, name: &str) -> usize {
     let after = header.split(&format!(" {name} = ")).nth(1).unwrap_or_else(|| panic!("no {name} in the header"));
@@ -1253,6 +1320,7 @@ fn tables_of_numbers(both: &mut Both, header: &str) -> Tables {
     let (least_bytes, most_bytes) = (one_node.image.len(), most_nodes.image.len());
     let (least_with_metres, most_with_metres) = (one_node.with_metres.len(), most_nodes.with_metres.len());
     assert_eq!(most_with_metres, BLOCK_BYTES * MOST_BLOCKS);
+    let one_node_as_text = text_of_tree(&one_node.tree).expect("of one level");
     let limits = [
         ("nodes of a tree, n", 1, MOST_NODES, "PLQ_MOST_NODES"),
         ("m", one_node.m, most_nodes.m, ""),
@@ -1269,6 +1337,8 @@ fn tables_of_numbers(both: &mut Both, header: &str) -> Tables {
         ("metres of a node", u32::MIN as usize, u32::MAX as usize, ""),
         ("questions in one call", 0, MOST_QUESTIONS, "PLQ_MOST_QUESTIONS"),
         ("depth of a node in a listing, from the node that is listed", 0, both.greatest_depth(), ""),
+        ("bytes of a text", one_node_as_text.len(), MOST_TEXT_BYTES, "PLQ_MOST_TEXT"),
+        ("levels of a text", 1, both.most_levels(), ""),
     ];
     let limits = limits.map(|(what, least, most, name)| {
         assert!(name.is_empty() || constant(header, name) == most, "{name} in the header");
@@ -1306,6 +1376,7 @@ fn rows_of_calls(both: &mut Both, header: &str) -> Vec<Vec<String>> {
     let join = Call::Join { pack: [string.clone(), vec![0]].concat(), bits: 15, trees: 1, parents: vec![0] };
     let split = Call::Split { bytes: bytes_of_bits(&pack), bits: 18, trees: 2, starts: room(), sizes: room() };
     let ask = Call::Ask { image: image_of_t.clone(), questions: vec![1, 1, 0, 1, 2, 0], answers: room() };
+    let text = b"((()())()(()))".to_vec();
     let calls = [
         (Call::StringOfParents { parents: parents.clone(), bytes: vec![0; 2] }, ("L", 15), ("1", 1)),
         (Call::ParentsOfString { bytes: string, bits: 15, parents: room() }, ("n", 7), ("0", 0)),
@@ -1318,6 +1389,8 @@ fn rows_of_calls(both: &mut Both, header: &str) -> Vec<Vec<String>> {
         (split, ("L", 18), ("k", 2)),
         (join, ("new L", 18), ("k + 1", 2)),
         (listing, ("nodes listed", 3), ("0", 0)),
+        (Call::ParentsOfText { text: text.clone(), parents: room() }, ("n", 7), ("0", 0)),
+        (Call::TextOfParents { parents: T.to_vec(), text: vec![0; text.len()] }, ("bytes of the text", 14), ("0", 0)),
     ];
     let rows = calls.map(|(call, first, second)| {
         let name = call.name();
@@ -1325,7 +1398,10 @@ fn rows_of_calls(both: &mut Both, header: &str) -> Vec<Vec<String>> {
         let comment = &header[header[..declared].rfind("Refusals: ").expect("said before it")..declared];
         // they may go on in the next line of the comment
         let names = comment["Refusals: ".len()..].split('.').next().expect("up to the full stop").replace("\n *", "");
-        let codes: Vec<String> = names.split(", ").map(|name| constant(header, name).to_string()).collect();
+        // of those with "or" between them neither is before the other
+        let code_of = |name: &str| constant(header, name).to_string();
+        let either = |names: &str| names.split(" or ").map(code_of).collect::<Vec<String>>().join(" or ");
+        let codes: Vec<String> = names.split(", ").map(either).collect();
         let answer = both.run(call).0;
         assert_eq!(answer, Answer { code: 0, place: 0, first: first.1, second: second.1 }, "{name}");
         assert_eq!(counts_in_header(header, name), [first.0, second.0], "the header's counts of {name}");
@@ -1533,6 +1609,8 @@ fn sentences(both: &mut Both, header: &str, t: &Example) -> Vec<(&'static str, V
     let (size, sums) = (code("PLQ_WRONG_SIZE"), code("PLQ_WRONG_SUMS"));
     let (other_version, wrong_header) = (code("PLQ_OTHER_VERSION"), code("PLQ_WRONG_HEADER"));
     let (strings, counts, samples) = (code("PLQ_WRONG_STRINGS"), code("PLQ_WRONG_COUNTS"), code("PLQ_WRONG_SAMPLES"));
+    let (not_text, too_nested, room) = (code("PLQ_NOT_TEXT"), code("PLQ_TOO_NESTED"), code("PLQ_NO_ROOM"));
+    let levels = both.most_levels();
     let codes: Vec<usize> = names_of(header, "enum plq_code {").iter().map(|name| code(name)).collect();
     let [retired] = (0..codes.len()).filter(|code| !codes.contains(code)).collect::<Vec<usize>>()[..] else {
         panic!("one number is no code any more, up to {}", codes.len())
@@ -1609,7 +1687,21 @@ fn sentences(both: &mut Both, header: &str, t: &Example) -> Vec<(&'static str, V
         ("go on with step {}.", &[2]),
         ("The cases {} and {} differ in bit {} alone", &[101100100, 100100100, 3]),
         ("of {} tree and of {} trees", &[1, 3]),
+        ("A text has at most {} bytes, its blanks counted, and at most {} levels.", &[MOST_TEXT_BYTES, levels]),
+        ("It has at most {} bytes; else code {}, with place {}.", &[MOST_TEXT_BYTES, size, 0]),
+        ("and on at most {} levels; else code {} or {}, whichever", &[levels, not_text, too_nested]),
+        ("Its tree has at most {} nodes; else code {}, with place {}.", &[MOST_NODES, size, 0]),
+        ("room for the parent list; else code {}, with place {}.", &[room, 0]),
+        ("Code {} names the first byte up to which", &[not_text]),
+        ("Code {} names the `(` that comes where {} nodes are open", &[too_nested, levels]),
+        ("is refused with code {}, and the place is one more", &[not_text]),
+        ("of codes {} and {} the one with the earlier byte wins", &[not_text, too_nested]),
+        ("and code {} for too many nodes comes after both.", &[size]),
         ("On a refusal both counts are {},", &[0]),
+        ("a text over {} bytes;", &[MOST_TEXT_BYTES]),
+        ("one tree, on at most {} levels, of over {} nodes;", &[levels, MOST_NODES]),
+        ("the number of bytes + {} if there is no such p |", &[1]),
+        ("comes where {} nodes are open | that byte, from {} |", &[levels, 1]),
         ("a parent list not of {} to {} numbers; L over {};", &[1, MOST_NODES, MOST_BITS]),
         ("k over {} (joining: over {}); a joined length over {};", &[MOST_TREES, MOST_TREES - 1, MOST_BITS]),
         ("or not of {} to {}; questions", &[least_blocks, MOST_BLOCKS]),

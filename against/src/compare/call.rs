@@ -18,6 +18,8 @@ pub enum Call {
     Split { bytes: Vec<u8>, bits: usize, trees: usize, starts: Vec<u32>, sizes: Vec<u32> },
     Join { pack: Vec<u8>, bits: usize, trees: usize, parents: Vec<u32> },
     List { image: Vec<u8>, node: u32, pairs: Vec<u32> },
+    ParentsOfText { text: Vec<u8>, parents: Vec<u32> },
+    TextOfParents { parents: Vec<u32>, text: Vec<u8> },
 }
 
 /// Something lent or passed with a call.
@@ -43,6 +45,8 @@ impl Call {
             Call::Split { bytes, bits, trees, starts, sizes } => calls::split(bytes, *bits, *trees, starts, sizes),
             Call::Join { pack, bits, trees, parents } => calls::join(pack, *bits, *trees, parents),
             Call::List { image, node, pairs } => calls::list(image, *node, pairs),
+            Call::ParentsOfText { text, parents } => calls::parents_of_text(text, parents),
+            Call::TextOfParents { parents, text } => calls::text_of_parents(parents, text),
         })
     }
 
@@ -60,6 +64,8 @@ impl Call {
             Call::Split { .. } => "plq_split",
             Call::Join { .. } => "plq_join",
             Call::List { .. } => "plq_list",
+            Call::ParentsOfText { .. } => "plq_parents_of_text",
+            Call::TextOfParents { .. } => "plq_text_of_parents",
         }
     }
 
@@ -106,6 +112,12 @@ impl Call {
             Call::List { image, node, pairs } => {
                 let node = ("node", Number(*node as usize));
                 vec![("image", Bytes(image)), node, ("pairs", Words(pairs))]
+            }
+            Call::ParentsOfText { text, parents } => {
+                vec![("text", Bytes(text)), ("parents", Words(parents))]
+            }
+            Call::TextOfParents { parents, text } => {
+                vec![("parents", Words(parents)), ("text", Bytes(text))]
             }
         }
     }

@@ -61,7 +61,7 @@ fn grouped(number: u64) -> String {
 }
 
 /// All codes, in the order of the table of codes.
-const CODES: [u32; 15] = [0, 2, 6, 11, 12, 13, 14, 15, 5, 4, 10, 3, 8, 9, 1];
+const CODES: [u32; 17] = [0, 2, 6, 11, 12, 13, 14, 15, 5, 4, 10, 16, 17, 3, 8, 9, 1];
 
 /// The codes that the library's header has for each call, in increasing order.
 const CODES_OF_CALLS: &[(&str, &[u32])] = &[
@@ -76,6 +76,8 @@ const CODES_OF_CALLS: &[(&str, &[u32])] = &[
     ("plq_split", &[0, 1, 2, 4, 5, 10]),
     ("plq_join", &[0, 1, 2, 3, 4, 5, 10]),
     ("plq_list", &[0, 1, 2, 6, 8, 9, 11, 12, 13, 14, 15]),
+    ("plq_parents_of_text", &[0, 1, 2, 16, 17]),
+    ("plq_text_of_parents", &[0, 1, 2, 3, 9]),
 ];
 
 /// Each group has random numbers of its own, by its name, so that what it draws does not depend on which groups there

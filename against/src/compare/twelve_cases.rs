@@ -1,5 +1,5 @@
 //! "Twelve checked by hand", written down by hand once more: each call with the answer and the lists that come back.
-//! Then the same for their tree T with metres, and for T's root, which has no rank.
+//! Then the same for their tree T with metres, for T's root, which has no rank, and for trees as text.
 
 use super::call::Call;
 use crate::model::answers::Answer;
@@ -12,7 +12,7 @@ pub const METRES_OF_T: [u32; 7] = [10, 20, 30, 40, 50, 60, 70];
 
 /// A call and what comes back.
 pub struct Case {
-    /// The number in document 01 of the case that it is, or that is like it but for the metres or the node.
+    /// The number in document 01 of the case that it is, or that is like it but for the metres, the node or the text.
     pub number: usize,
     pub call: Call,
     pub answer: Answer,
@@ -203,6 +203,109 @@ pub fn of_the_root() -> Vec<Case> {
     each.into_iter().flatten().collect()
 }
 
+fn reading(text: &[u8], parents: Vec<u32>) -> Call {
+    Call::ParentsOfText { text: text.to_vec(), parents }
+}
+
+fn writing(parents: &[u32], text: Vec<u8>) -> Call {
+    Call::TextOfParents { parents: parents.to_vec(), text }
+}
+
+fn text_read(number: usize, text: &[u8], parents: &[u32]) -> Case {
+    let (before, answer) = (vec![99; parents.len()], done(parents.len() as u32, 0));
+    Case { number, call: reading(text, before), answer, after: reading(text, parents.to_vec()) }
+}
+
+fn text_made(number: usize, parents: &[u32], text: &[u8]) -> [Case; 2] {
+    let (before, answer) = (vec![0xEE; text.len()], done(text.len() as u32, 0));
+    let there = Case { number, call: writing(parents, before), answer, after: writing(parents, text.to_vec()) };
+    [there, text_read(number, text, parents)]
+}
+
+fn text_refused(text: &[u8], code: u32, place: u32) -> Case {
+    call_refused(7, reading(text, vec![99; 99]), code, place)
+}
+
+/// Trees as text, of all limits too: written, read with blanks and without, and refused.
+pub fn as_text() -> Vec<Case> {
+    let t = b"((()())()(()))";
+    let (down, up) = (|levels: usize| b"(".repeat(levels), |levels: usize| b")".repeat(levels));
+    let nested = |levels: usize| [down(levels), up(levels)].concat();
+    let path_of = |n: u32| (0..n).collect::<Vec<u32>>();
+    let mut cases = Vec::new();
+    cases.extend(text_made(1, &T, t));
+    cases.extend(text_made(3, &[0], b"()"));
+    cases.extend(text_made(4, &[0, 1, 2], b"((()))"));
+    cases.extend(text_made(5, &[0, 1, 1, 1], b"(()()())"));
+    cases.push(text_read(1, b" (\n(\r() ()  )()(()\n)\r\n)\n", &T));
+    cases.push(text_read(3, b"\r\n ( \r\n)", &[0]));
+    // too little room; and what is after the needed part stays
+    cases.push(call_refused(1, reading(t, vec![99; 6]), 1, 0));
+    cases.push(call_refused(1, writing(&T, vec![0xEE; 13]), 1, 0));
+    let after = reading(t, [T.as_slice(), &[99]].concat());
+    cases.push(Case { number: 1, call: reading(t, vec![99; 8]), answer: done(7, 0), after });
+    let after = writing(&T, [t.as_slice(), &[0xEE]].concat());
+    cases.push(Case { number: 1, call: writing(&T, vec![0xEE; 15]), answer: done(14, 0), after });
+    // no tree: the first byte that nothing goes on with
+    let no_trees: [(&[u8], u32); 16] = [
+        (b"", 1),
+        (b" ", 2),
+        (b"\r\n ", 4),
+        (b")", 1),
+        (b"(", 2),
+        (b"( ", 3),
+        (b"(()", 4),
+        (b"()(", 3),
+        (b"()()", 3),
+        (b"() )", 4),
+        (b"( )x", 4),
+        (b"(x)", 2),
+        (b"x()", 1),
+        (b"(\t)", 2),
+        (b"(\0)", 2),
+        (b"()\t", 3),
+    ];
+    cases.extend(no_trees.map(|(text, place)| text_refused(text, 16, place)));
+    // 64 levels, and a 65th one
+    cases.extend(text_made(4, &path_of(64), &nested(64)));
+    cases.push(text_refused(&nested(65), 17, 65));
+    cases.push(text_refused(&b" (".repeat(65), 17, 130));
+    cases.push(text_refused(&down(64), 16, 65));
+    cases.push(text_refused(&down(65), 17, 65));
+    cases.push(text_refused(&[&down(64), b"x(".as_slice()].concat(), 16, 65));
+    cases.push(text_refused(&[&down(65), b"x".as_slice()].concat(), 17, 65));
+    // the root is byte 1, a branch of 63 levels takes bytes 2 to 127, and the next one is too deep at its 64th byte
+    cases.push(text_refused(&[down(1), nested(63), nested(64), up(1)].concat(), 17, 191));
+    cases.push(call_refused(4, writing(&path_of(65), vec![0xEE; 130]), 9, 65));
+    cases.push(call_refused(4, writing(&path_of(65), Vec::new()), 9, 65));
+    // two branches from the root: nodes 2 d and 2 d + 1 are at depth d
+    let two_branches: Vec<u32> = [0, 1, 1].into_iter().chain(2..=127).collect();
+    cases.push(call_refused(4, writing(&two_branches, vec![0xEE; 258]), 9, 128));
+    // no parent lists
+    cases.push(call_refused(6, writing(&[0, 1, 2, 1], vec![0xEE; 8]), 3, 4));
+    cases.push(call_refused(6, writing(&[0, 2], Vec::new()), 3, 2));
+    cases.push(call_refused(6, writing(&[], vec![0xEE; 8]), 2, 0));
+    cases.push(call_refused(6, writing(&[0; 65_536], Vec::new()), 2, 0));
+    cases.extend(limits_of_text());
+    cases
+}
+
+/// 65,535 nodes, one more, and one more with a byte that stands in no text; 1,048,576 bytes, and one more.
+fn limits_of_text() -> [Case; 7] {
+    let star = |n: usize| [b"(".as_slice(), &b"()".repeat(n - 1), b")"].concat();
+    let with_blanks = |text: &[u8], length: usize| [text, &b" ".repeat(length - text.len())].concat();
+    let parents_of_star: Vec<u32> = [0].into_iter().chain([1; 65_534]).collect();
+    [
+        text_read(5, &star(65_535), &parents_of_star),
+        call_refused(5, reading(&star(65_536), vec![99; 65_536]), 2, 0),
+        call_refused(5, reading(&star(65_536), Vec::new()), 2, 0),
+        call_refused(5, reading(&[&star(65_536), b"x".as_slice()].concat(), vec![99; 65_536]), 16, 131_073),
+        text_read(3, &with_blanks(b"()", 1_048_576), &[0]),
+        call_refused(3, reading(&with_blanks(b"()", 1_048_577), vec![99]), 2, 0),
+        call_refused(3, reading(&with_blanks(b"x", 1_048_577), vec![99]), 2, 0),
+    ]
+}
+
 /// All cases, in order; what is left of case 1, R1 and R0 by themselves, is inside the image of case 2.
 pub fn table() -> Vec<Case> {
     let t_image = image_of_t();
@@ -248,7 +351,8 @@ mod tests {
 
     #[test]
     fn the_model_gives_every_case() {
-        for Case { number, mut call, answer, after } in [table(), with_metres(), of_the_root()].into_iter().flatten() {
+        let tables = [table(), with_metres(), of_the_root(), as_text()];
+        for Case { number, mut call, answer, after } in tables.into_iter().flatten() {
             assert_eq!(call.by_model(), answer, "case {number}");
             assert_eq!(call, after, "case {number}");
         }

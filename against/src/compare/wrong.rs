@@ -4,13 +4,15 @@ use super::call::Call;
 use super::layout::{place_of_bit, with_words, word_at, Layout};
 use super::run::{first_difference, DEFAULT_SEED};
 use crate::library::{Library, Returned};
-use crate::model::answers::{number, Answer};
+use crate::model::answers::{number, Answer, Refusal};
 use crate::model::calls;
 use crate::model::images::{
     candidate, image_of_tree, metres_in, seal, wrong_words, Content, WrongWords, BITS_IN_BLOCK, BLOCK_BYTES,
     MOST_BLOCKS, PAYLOAD_BYTES, PAYLOAD_WORDS, WITHOUT_METRES, WITH_METRES,
 };
+use crate::model::listing::listing_from;
 use crate::model::strings::MOST_BITS;
+use crate::model::texts::{tree_of_text, Node, BLANKS, CLOSES, MOST_LEVELS, MOST_TEXT_BYTES, OPENS};
 use crate::model::trees::{Tree, MOST_NODES};
 
 /// A function that does as the library, but for one thing.
@@ -925,6 +927,292 @@ pub const WRONG: &[Wrong] = &[
             }
         },
     },
+    Wrong {
+        name: "parents-of-text-takes-tab-for-blank",
+        what: "plq_parents_of_text passes over tabs too",
+        spoil: |before, after, answer| {
+            read_text_otherwise(before, after, answer, |text| {
+                let with_spaces: Vec<u8> = text.iter().map(|&byte| if byte == b'\t' { b' ' } else { byte }).collect();
+                tree_of_text(&with_spaces, MOST_LEVELS)
+            });
+        },
+    },
+    Wrong {
+        name: "parents-of-text-does-not-know-13",
+        what: "plq_parents_of_text does not take byte 13 for a blank",
+        spoil: |before, after, answer| {
+            read_text_otherwise(before, after, answer, |text| {
+                let with_letters: Vec<u8> = text.iter().map(|&byte| if byte == 13 { b'x' } else { byte }).collect();
+                tree_of_text(&with_letters, MOST_LEVELS)
+            });
+        },
+    },
+    Wrong {
+        name: "parents-of-text-numbers-depth-first",
+        what: "plq_parents_of_text numbers the nodes in the order of their brackets",
+        spoil: |_, after, answer| {
+            if let (0, Call::ParentsOfText { text, parents }) = (answer.code, after) {
+                let (mut open, mut nodes) = (vec![0], 0);
+                for &byte in text.iter() {
+                    if byte == OPENS {
+                        parents[nodes] = *open.last().expect("not closed before the end");
+                        nodes += 1;
+                        open.push(number(nodes));
+                    } else if byte == CLOSES {
+                        open.pop();
+                    }
+                }
+            }
+        },
+    },
+    Wrong {
+        name: "parents-of-text-takes-65-levels",
+        what: "plq_parents_of_text refuses the 66th level, not the 65th",
+        spoil: |before, after, answer| {
+            read_text_otherwise(before, after, answer, |text| tree_of_text(text, MOST_LEVELS + 1));
+        },
+    },
+    Wrong {
+        name: "parents-of-text-refuses-64-levels",
+        what: "plq_parents_of_text refuses the 64th level",
+        spoil: |before, after, answer| {
+            read_text_otherwise(before, after, answer, |text| tree_of_text(text, MOST_LEVELS - 1));
+        },
+    },
+    Wrong {
+        name: "parents-of-text-place-off-by-one",
+        what: "plq_parents_of_text names the byte before the one at which the text cannot be continued",
+        spoil: |_, after, answer| {
+            if let (16, Call::ParentsOfText { .. }) = (answer.code, after) {
+                answer.place -= 1;
+            }
+        },
+    },
+    Wrong {
+        name: "parents-of-text-does-not-count-blanks",
+        what: "plq_parents_of_text counts the brackets up to the byte that it names, not the blanks",
+        spoil: |_, after, answer| {
+            if let (16 | 17, Call::ParentsOfText { text, .. }) = (answer.code, after) {
+                let before = &text[..answer.place as usize - 1];
+                answer.place -= number(before.iter().filter(|byte| BLANKS.contains(byte)).count());
+            }
+        },
+    },
+    Wrong {
+        name: "parents-of-text-looks-at-nodes-first",
+        what: "plq_parents_of_text refuses more than 65,535 opening brackets before it refuses a text that is no tree",
+        spoil: |_, after, answer| {
+            if let (16 | 17, Call::ParentsOfText { text, .. }) = (answer.code, after) {
+                if text.iter().filter(|&&byte| byte == OPENS).count() > MOST_NODES {
+                    *answer = refused(2, 0);
+                }
+            }
+        },
+    },
+    Wrong {
+        name: "parents-of-text-looks-at-levels-first",
+        what: "plq_parents_of_text refuses a 65th level before a text that is no tree at an earlier byte",
+        spoil: |_, after, answer| {
+            if let (16, Call::ParentsOfText { text, .. }) = (answer.code, after) {
+                let mut level = 0;
+                for (place, &byte) in (1..).zip(text.iter()) {
+                    level += i64::from(byte == OPENS) - i64::from(byte == CLOSES);
+                    if byte == OPENS && level == 65 {
+                        *answer = refused(17, place);
+                        return;
+                    }
+                }
+            }
+        },
+    },
+    Wrong {
+        name: "parents-of-text-looks-at-bytes-first",
+        what: "plq_parents_of_text refuses a byte that stands in no text before a 65th level at an earlier byte",
+        spoil: |_, after, answer| {
+            if let (17, Call::ParentsOfText { text, .. }) = (answer.code, after) {
+                let known = |byte: &u8| [OPENS, CLOSES].contains(byte) || BLANKS.contains(byte);
+                if let Some(index) = text.iter().position(|byte| !known(byte)) {
+                    *answer = refused(16, number(index) + 1);
+                }
+            }
+        },
+    },
+    Wrong {
+        name: "parents-of-text-looks-for-the-end-first",
+        what: "plq_parents_of_text refuses a text that ends inside the tree before it refuses a 65th level",
+        spoil: |_, after, answer| {
+            if let (17, Call::ParentsOfText { text, .. }) = (answer.code, after) {
+                let count = |bracket: u8| text.iter().filter(|&&byte| byte == bracket).count();
+                if count(OPENS) > count(CLOSES) {
+                    *answer = refused(16, number(text.len()) + 1);
+                }
+            }
+        },
+    },
+    Wrong {
+        name: "parents-of-text-ignores-what-follows",
+        what: "plq_parents_of_text does not look at what is after the tree",
+        spoil: |before, after, answer| {
+            if let (16, Call::ParentsOfText { text, parents }) = (answer.code, before) {
+                let mut parents = parents.clone();
+                let by_beginning = calls::parents_of_text(&text[..answer.place as usize - 1], &mut parents);
+                if !matches!(by_beginning, Err(Refusal::NotAText { .. })) {
+                    *answer = Answer::of(by_beginning);
+                    *after = Call::ParentsOfText { text: text.clone(), parents };
+                }
+            }
+        },
+    },
+    Wrong {
+        name: "parents-of-text-takes-longer-ones",
+        what: "plq_parents_of_text reads texts of any length",
+        spoil: |before, after, answer| {
+            if let (2, Call::ParentsOfText { text, parents }) = (answer.code, before) {
+                if text.len() > MOST_TEXT_BYTES {
+                    let mut parents = parents.clone();
+                    let read = tree_of_text(text, MOST_LEVELS);
+                    *answer = Answer::of(read.and_then(|root| calls::write_nodes(&root, &mut parents)));
+                    *after = Call::ParentsOfText { text: text.clone(), parents };
+                }
+            }
+        },
+    },
+    Wrong {
+        name: "parents-of-text-refuses-the-longest",
+        what: "plq_parents_of_text refuses a text of 1,048,576 bytes",
+        spoil: |before, after, answer| {
+            if matches!(before, Call::ParentsOfText { text, .. } if text.len() == MOST_TEXT_BYTES) {
+                *after = before.clone();
+                *answer = refused(2, 0);
+            }
+        },
+    },
+    Wrong {
+        name: "parents-of-text-takes-65536-nodes",
+        what: "plq_parents_of_text finds no fault with 65,536 nodes",
+        spoil: |before, after, answer| {
+            if let (2, Call::ParentsOfText { text, parents }) = (answer.code, before) {
+                let read = tree_of_text(text, MOST_LEVELS).map(|root| root.parent_list()).unwrap_or_default();
+                if read.len() == MOST_NODES + 1 && read.len() <= parents.len() {
+                    let parents = [&read, &parents[read.len()..]].concat();
+                    *after = Call::ParentsOfText { text: text.clone(), parents };
+                    *answer = Answer { code: 0, place: 0, first: number(read.len()), second: 0 };
+                }
+            }
+        },
+    },
+    Wrong {
+        name: "parents-of-text-looks-at-room-first",
+        what: "plq_parents_of_text refuses for too little room before it refuses too many nodes",
+        spoil: |before, _, answer| {
+            if let (2, Call::ParentsOfText { text, parents }) = (answer.code, before) {
+                if text.len() <= MOST_TEXT_BYTES && parents.len() <= MOST_NODES {
+                    *answer = refused(1, 0);
+                }
+            }
+        },
+    },
+    Wrong {
+        name: "parents-of-text-fills-short-room",
+        what: "plq_parents_of_text writes what fits before it refuses for too little room",
+        spoil: |_, after, answer| {
+            if let (1, Call::ParentsOfText { text, parents }) = (answer.code, after) {
+                let all = tree_of_text(text, MOST_LEVELS).expect("accepted but for the room").parent_list();
+                parents.iter_mut().zip(all).for_each(|(entry, parent)| *entry = parent);
+            }
+        },
+    },
+    Wrong {
+        name: "text-of-parents-siblings-in-reverse",
+        what: "plq_text_of_parents writes the children of a node from the last to the first",
+        spoil: |_, after, answer| {
+            if let (0, Call::TextOfParents { text, .. }) = (answer.code, after) {
+                // backwards, with each bracket turned
+                let written = &mut text[..answer.first as usize];
+                written.reverse();
+                written.iter_mut().for_each(|byte| *byte = if *byte == OPENS { CLOSES } else { OPENS });
+            }
+        },
+    },
+    Wrong {
+        name: "text-of-parents-wants-room-for-nodes",
+        what: "plq_text_of_parents wants room for one byte to a node and writes no further than there is room",
+        spoil: |_, after, answer| {
+            if let (1, Call::TextOfParents { parents, text }) = (answer.code, after) {
+                if parents.len() <= text.len() {
+                    let mut whole = vec![0; 2 * parents.len()];
+                    *answer = Answer::of(calls::text_of_parents(parents, &mut whole));
+                    text.iter_mut().zip(whole).for_each(|(byte, right)| *byte = right);
+                }
+            }
+        },
+    },
+    Wrong {
+        name: "text-of-parents-counts-nodes",
+        what: "plq_text_of_parents answers the nodes, not the bytes",
+        spoil: |_, after, answer| {
+            if let (0, Call::TextOfParents { .. }) = (answer.code, after) {
+                answer.first /= 2;
+            }
+        },
+    },
+    Wrong {
+        name: "text-of-parents-ends-the-line",
+        what: "plq_text_of_parents writes a line end after the text, where there is room",
+        spoil: |_, after, answer| {
+            if let (0, Call::TextOfParents { text, .. }) = (answer.code, after) {
+                text[answer.first as usize..].iter_mut().take(1).for_each(|byte| *byte = b'\n');
+            }
+        },
+    },
+    Wrong {
+        name: "text-of-parents-takes-65-levels",
+        what: "plq_text_of_parents writes a path of 65 nodes",
+        spoil: |_, after, answer| {
+            if let (9, Call::TextOfParents { parents, text }) = (answer.code, after) {
+                if parents.len() == 65 && text.len() >= 130 {
+                    text[..65].fill(OPENS);
+                    text[65..130].fill(CLOSES);
+                    *answer = Answer { code: 0, place: 0, first: 130, second: 0 };
+                }
+            }
+        },
+    },
+    Wrong {
+        name: "text-of-parents-refuses-64-levels",
+        what: "plq_text_of_parents refuses a tree with a node at depth 63",
+        spoil: |before, after, answer| {
+            if let (0, Call::TextOfParents { parents, .. }) = (answer.code, before) {
+                let tree = Tree::of_parent_list(parents).expect("accepted");
+                let listing = listing_from(&tree, 1).expect("accepted");
+                if let Some(entry) = listing.iter().find(|entry| entry.depth == 63) {
+                    *after = before.clone();
+                    *answer = refused(9, number(entry.node));
+                }
+            }
+        },
+    },
+    Wrong {
+        name: "text-of-parents-names-place-in-listing",
+        what: "plq_text_of_parents names how many nodes come up to the first one at depth 64, not its number",
+        spoil: |_, after, answer| {
+            if let (9, Call::TextOfParents { parents, .. }) = (answer.code, after) {
+                let tree = Tree::of_parent_list(parents).expect("refused for its depth alone");
+                answer.place = nodes_up_to(&tree, answer.place as usize);
+            }
+        },
+    },
+    Wrong {
+        name: "text-of-parents-looks-at-room-first",
+        what: "plq_text_of_parents refuses for too little room before it refuses a tree that is too deep",
+        spoil: |_, after, answer| {
+            if let (9, Call::TextOfParents { parents, text }) = (answer.code, after) {
+                if text.len() < 2 * parents.len() {
+                    *answer = refused(1, 0);
+                }
+            }
+        },
+    },
 ];
 
 fn refused(code: u32, place: u32) -> Answer {
@@ -970,6 +1258,16 @@ fn ask_otherwise(before: &Call, after: &mut Call, answer: &mut Answer, change: f
     others.chunks_mut(3).for_each(change);
     *answer = Answer::of(calls::ask(image, &others, &mut answers));
     *after = Call::Ask { image: image.clone(), questions: questions.clone(), answers };
+}
+
+/// A text that is not too long, read by other rules: `read` gets it and gives the tree, or refuses.
+fn read_text_otherwise(before: &Call, after: &mut Call, answer: &mut Answer, read: fn(&[u8]) -> Result<Node, Refusal>) {
+    let Call::ParentsOfText { text, parents } = before else { return };
+    if text.len() <= MOST_TEXT_BYTES {
+        let mut parents = parents.clone();
+        *answer = Answer::of(read(text).and_then(|root| calls::write_nodes(&root, &mut parents)));
+        *after = Call::ParentsOfText { text: text.clone(), parents };
+    }
 }
 
 /// A check that looks at less: an image refused with codes 11 to 15 is accepted if it is right once what is not looked
@@ -1024,6 +1322,19 @@ fn first_block_of_samples(image: &[u8]) -> usize {
 
 fn block_of(&(block, _): &(usize, usize)) -> u32 {
     number(block)
+}
+
+/// How many nodes come up to this one, itself included, parents first and children in order.
+fn nodes_up_to(tree: &Tree, node: usize) -> u32 {
+    let (mut to_come, mut count) = (vec![1], 0);
+    while let Some(next) = to_come.pop() {
+        count += 1;
+        if next == node {
+            break;
+        }
+        to_come.extend(tree.children(next).iter().rev());
+    }
+    count
 }
 
 fn listed_in_reverse(tree: &Tree, node: usize, depth: u32) -> Vec<u32> {

@@ -14,7 +14,8 @@ pub struct Answer {
 pub type Counts = (usize, usize);
 
 /// The table of codes, one variant a row and in its order, with document 02's "11, 12, 13, 14, 15 in that order, all
-/// where 7 stood". "Where several hold, the upper row wins": every call of the model asks for them in this order.
+/// where 7 stood", and with 16 and 17, of which "both stand after 10". "Where several hold, the upper row wins": every
+/// call of the model asks for them in this order, but for what document 02 says of texts.
 #[derive(Clone, Copy, Debug, PartialEq, Eq)]
 pub enum Refusal {
     /// A count, a length or a number of blocks is outside its limits.
@@ -37,12 +38,18 @@ pub enum Refusal {
     NotAString { bit: usize },
     /// "The trees in a pack aren't k"; place: "the number found".
     OtherTrees { found: usize },
+    /// "Text that is no tree of any depth or size"; place: "the first byte at which it can't be continued, or the
+    /// length + 1".
+    NotAText { byte: usize },
+    /// "A 65th level"; place: "its byte".
+    TooManyLevels { byte: usize },
     /// "Not a parent list"; place: "lowest offending entry, from 1".
     NotAParentList { entry: usize },
     /// "Kind, node or argument not allowed"; place: "lowest such question, counted from 1; for a listing 1". And
     /// "question 11 on version 1, and reading its metres back (place 1), are code 8".
     NotAllowed { question: usize },
-    /// "Listing too deep"; place: "first node in listing order at depth 64".
+    /// "Listing too deep"; place: "first node in listing order at depth 64". And "writing a tree of more than 64
+    /// levels is code 9, as for the listing of its root".
     TooDeep { node: usize },
     /// "An output has too little room".
     NoRoom,
@@ -63,6 +70,8 @@ impl Refusal {
             Refusal::LeftoverSet => (5, 0),
             Refusal::NotAString { bit } => (4, bit),
             Refusal::OtherTrees { found } => (10, found),
+            Refusal::NotAText { byte } => (16, byte),
+            Refusal::TooManyLevels { byte } => (17, byte),
             Refusal::NotAParentList { entry } => (3, entry),
             Refusal::NotAllowed { question } => (8, question),
             Refusal::TooDeep { node } => (9, node),

@@ -1,4 +1,4 @@
-//! The eleven calls as total functions: what comes back for any input, and what every lent list holds after it.
+//! The thirteen calls as total functions: what comes back for any input, and what every lent list holds after it.
 //!
 //! Each asks for its refusals in the order of the table and writes only when none is left, for "On refusal the
 //! counts are 0 and no lent buffer changes"; and then "only the needed first part of the output (for joining, the
@@ -11,6 +11,7 @@ use super::listing::listing_from;
 use super::packs::{parts_of_pack, MOST_TREES};
 use super::questions::{answers_to, question_count};
 use super::strings::{string_of_tree, tree_of_string, MOST_BITS};
+use super::texts::{text_of_tree, tree_of_text, Node, MOST_LEVELS, MOST_TEXT_BYTES};
 use super::trees::{Tree, MOST_NODES};
 
 /// Counts: "bits and trees (string made, ..)".
@@ -130,6 +131,28 @@ pub fn list(image: &[u8], node: u32, pairs: &mut [u32]) -> Result<Counts, Refusa
     let made = numbers_of(entries.iter().flat_map(|entry| [entry.node, entry.depth]));
     write_first_part(&made, pairs)?;
     Ok((entries.len(), 0))
+}
+
+/// "Code 2 first for a text over 1,048,576 bytes; 16 .. 17 .., then code 2 for too many nodes, then 1".
+pub fn parents_of_text(text: &[u8], parents: &mut [u32]) -> Result<Counts, Refusal> {
+    demand(text.len() <= MOST_TEXT_BYTES)?;
+    write_nodes(&tree_of_text(text, MOST_LEVELS)?, parents)
+}
+
+/// What is left to do with a text that has been read. Counts: "n and 0 (parent list made)".
+pub fn write_nodes(root: &Node, parents: &mut [u32]) -> Result<Counts, Refusal> {
+    let made = root.parent_list();
+    demand_node_count(&made)?;
+    write_first_part(&made, parents)?;
+    Ok((made.len(), 0))
+}
+
+/// Counts: "Writing counts bytes and 0."
+pub fn text_of_parents(parents: &[u32], text: &mut [u8]) -> Result<Counts, Refusal> {
+    demand_node_count(parents)?;
+    let made = text_of_tree(&Tree::of_parent_list(parents)?)?;
+    write_first_part(&made, text)?;
+    Ok((made.len(), 0))
 }
 
 /// Code 2 unless the size is within its limits.

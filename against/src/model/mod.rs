@@ -1,4 +1,4 @@
-//! What document 01 says, with what items 1 and 2 of document 02 change, written down in the plainest form that
+//! What document 01 says, with what the items of document 02 change and add, written down in the plainest form that
 //! computes: parent lists, lists of children, queues and lists of bits. Nothing here ranks, selects or packs words, and
 //! speed does not matter.
 //!
@@ -13,4 +13,5 @@ pub mod outline;
 pub mod packs;
 pub mod questions;
 pub mod strings;
+pub mod texts;
 pub mod trees;

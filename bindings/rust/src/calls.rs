@@ -1,4 +1,5 @@
-//! The eleven calls of the header over lent slices; nothing is allocated; a refused call leaves every slice as it was.
+//! The thirteen calls of the header over lent slices; nothing is allocated, and a refused call
+//! leaves every slice as it was.
 //!
 //! A list goes in as a slice, and a result comes out in the beginning of a slice that has the room for it; what lies
 //! after the result stays. [`size`] has the rooms that are enough. Bytes that others can change during a call, such as
@@ -343,6 +344,54 @@ pub fn join(pack: &mut [u8], bits: usize, trees: usize, parents: &[u32]) -> Resu
 pub fn list(image: &[u8], node: u32, pairs: &mut [u32]) -> Result<usize> {
     let handed = Handed::ImageAndNode { bytes: image.len(), node };
     counts(sys::list(image, node, pairs), handed).map(|(listed, _)| listed as usize)
+}
+
+/// Reads a tree as parenthesis text, writes its parent list into `parents` and gives the number of
+/// nodes.
+///
+/// A node is `(`, its children, `)`; the bytes 32, 10 and 13 may be anywhere and mean nothing, and
+/// no other byte may be there. Read is exactly a text of at most [`MOST_TEXT`](crate::MOST_TEXT)
+/// bytes that is one tree of at most [`MOST_NODES`] nodes on at most 64 levels. It has at most half
+/// as many nodes as bytes, so room for so many is enough. [`TreeText`](crate::TreeText) makes the
+/// room itself.
+///
+/// ```
+/// use parlaqen::{calls::parents_of_text, Error};
+///
+/// let mut parents = [99; 8];
+/// assert_eq!(parents_of_text(b"( (()()) () (()) )\r\n", &mut parents), Ok(7));
+/// assert_eq!(parents, [0, 1, 1, 1, 2, 2, 4, 99]);
+/// assert_eq!(parents_of_text(b"(()) ()", &mut parents), Err(Error::NotText { byte: 6 }));
+/// assert_eq!(parents_of_text(b"(()", &mut parents), Err(Error::NotText { byte: 4 }));
+/// assert_eq!(parents_of_text(&[b'('; 99], &mut parents), Err(Error::TooNested { byte: 65 }));
+/// ```
+///
+/// # Errors
+///
+/// [`Error::WrongSize`] for too many bytes, [`Error::NotText`] or [`Error::TooNested`], whichever
+/// has the earlier byte, [`Error::WrongSize`] for too many nodes, [`Error::NoRoom`].
+pub fn parents_of_text(text: &[u8], parents: &mut [u32]) -> Result<usize> {
+    let handed = Handed::Text { text };
+    counts(sys::parents_of_text(text, parents), handed).map(|(nodes, _)| nodes as usize)
+}
+
+/// Writes the tree of a parent list as parenthesis text into `text` and gives its number of bytes.
+///
+/// It has brackets alone, [`size::text_bytes`] of them; what lies after them in `text` stays.
+/// [`TreeText::of_parents`](crate::TreeText::of_parents) makes the room itself.
+///
+/// ```
+/// let mut text = [b'.'; 16];
+/// assert_eq!(parlaqen::calls::text_of_parents(&[0, 1, 1, 1, 2, 2, 4], &mut text), Ok(14));
+/// assert_eq!(&text, b"((()())()(()))..");
+/// ```
+///
+/// # Errors
+///
+/// [`Error::WrongSize`], [`Error::NotParents`], [`Error::TooDeep`], [`Error::NoRoom`].
+pub fn text_of_parents(parents: &[u32], text: &mut [u8]) -> Result<usize> {
+    let handed = Handed::Parents { nodes: parents.len() };
+    counts(sys::text_of_parents(parents, text), handed).map(|(bytes, _)| bytes as usize)
 }
 
 #[cfg(test)]

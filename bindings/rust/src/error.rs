@@ -1,6 +1,8 @@
 use core::fmt;
 
-use crate::{size, Question, BLOCK_BYTES, MOST_BITS, MOST_IMAGE_BYTES, MOST_NODES, MOST_QUESTIONS, MOST_TREES};
+use crate::{
+    size, Question, BLOCK_BYTES, MOST_BITS, MOST_IMAGE_BYTES, MOST_NODES, MOST_QUESTIONS, MOST_TEXT, MOST_TREES,
+};
 
 /// The blocks of the smallest image and of the largest.
 const LEAST_BLOCKS: usize = size::image_bytes(1, 1) / BLOCK_BYTES;
@@ -22,11 +24,16 @@ pub(crate) const NUMBERS_OF_QUESTION: usize = 3;
 /// 8. [`LeftoverSet`](Self::LeftoverSet)
 /// 9. [`NotString`](Self::NotString), [`EndsTooEarly`](Self::EndsTooEarly)
 /// 10. [`OtherTrees`](Self::OtherTrees)
-/// 11. [`NotParents`](Self::NotParents)
-/// 12. [`NotAllowed`](Self::NotAllowed), [`NoSuchNode`](Self::NoSuchNode), [`NoSuchNodeAsked`](Self::NoSuchNodeAsked),
+/// 11. [`NotText`](Self::NotText), [`TooNested`](Self::TooNested): of these two, the one with the
+///     earlier byte
+/// 12. [`NotParents`](Self::NotParents)
+/// 13. [`NotAllowed`](Self::NotAllowed), [`NoSuchNode`](Self::NoSuchNode), [`NoSuchNodeAsked`](Self::NoSuchNodeAsked),
 ///     [`NoMetres`](Self::NoMetres), [`NoMetresAsked`](Self::NoMetresAsked)
-/// 13. [`TooDeep`](Self::TooDeep)
-/// 14. [`NoRoom`](Self::NoRoom)
+/// 14. [`TooDeep`](Self::TooDeep)
+/// 15. [`NoRoom`](Self::NoRoom)
+///
+/// One size comes later than the list has it: a text of too many nodes is a
+/// [`WrongSize`](Self::WrongSize) only where it is one tree on at most 64 levels.
 ///
 /// The variants below are in the order of their codes. Code 7 is retired: no call answers it, and its number is never
 /// used again. Codes 11 to 15 say what is wrong with an image whose sums are right and that no tree gives; the parts of
@@ -100,7 +107,7 @@ pub enum Error {
         /// The lowest such question, counted from 1.
         question: u32,
     },
-    /// Code 9: the listing would go below depth 63.
+    /// Code 9: the listing, or the text, would go below depth 63.
     TooDeep {
         /// The first node, in the order of the listing, at depth 64.
         node: u32,
@@ -133,6 +140,17 @@ pub enum Error {
     WrongSamples {
         /// The lowest such block, counted from 0.
         block: u32,
+    },
+    /// Code 16: the text is not one tree, of whatever depth and size.
+    NotText {
+        /// The first byte, counted from 1 and with blanks, up to which the text begins no tree. Where
+        /// it ends before its tree is over, or has no bracket, this is one more than it has bytes.
+        byte: u32,
+    },
+    /// Code 17: the text opens a 65th level.
+    TooNested {
+        /// The byte that does, counted from 1 and with blanks.
+        byte: u32,
     },
     /// A code that this crate does not know, or code 0, which is no refusal, with counts that cannot be: the archive
     /// that was linked is of another version than this crate.
@@ -232,6 +250,16 @@ pub enum WrongSize {
         /// How many questions there are.
         questions: usize,
     },
+    /// A text of more bytes than 1,048,576.
+    TextTooLong {
+        /// How many bytes it has.
+        bytes: usize,
+    },
+    /// A text that is one tree, but of more nodes than 65,535.
+    TextNodes {
+        /// How many nodes it has.
+        nodes: usize,
+    },
     /// None of these: the archive that was linked is of another version than this crate, with other limits.
     Unlisted,
 }
@@ -249,6 +277,7 @@ pub(crate) enum Handed<'a> {
     ImageAndNumbers { bytes: usize, numbers: usize },
     ImageAndQuestions { bytes: usize, questions: &'a [Question] },
     ImageAndNode { bytes: usize, node: u32 },
+    Text { text: &'a [u8] },
 }
 
 impl Handed<'_> {
@@ -278,6 +307,7 @@ impl Handed<'_> {
             Self::ImageAndQuestions { bytes, questions } => {
                 wrong_image(bytes).or_else(|| wrong_questions(questions.len()))
             }
+            Self::Text { text } => wrong_text(text),
         };
         wrong.unwrap_or(WrongSize::Unlisted)
     }
@@ -326,6 +356,16 @@ fn wrong_questions(questions: usize) -> Option<WrongSize> {
     (questions > MOST_QUESTIONS).then_some(WrongSize::Questions { questions })
 }
 
+fn wrong_text(text: &[u8]) -> Option<WrongSize> {
+    let bytes = text.len();
+    if bytes > MOST_TEXT {
+        return Some(WrongSize::TextTooLong { bytes });
+    }
+    // it is one tree, and then each of these opens a node
+    let nodes = text.iter().filter(|byte| **byte == b'(').count();
+    (nodes > MOST_NODES).then_some(WrongSize::TextNodes { nodes })
+}
+
 impl Error {
     /// What is said of counts that no call of this crate's version gives, so that they lead to no panic.
     pub(crate) const UNLISTED_COUNTS: Self = Self::Unlisted { code: 0, place: 0 };
@@ -358,6 +398,8 @@ impl Error {
             (13, _) => Self::WrongStrings { block: place },
             (14, _) => Self::WrongCounts { block: place },
             (15, _) => Self::WrongSamples { block: place },
+            (16, _) => Self::NotText { byte: place },
+            (17, _) => Self::TooNested { byte: place },
             _ => Self::Unlisted { code, place },
         }
     }
@@ -406,6 +448,8 @@ impl Error {
             Self::WrongStrings { .. } => 13,
             Self::WrongCounts { .. } => 14,
             Self::WrongSamples { .. } => 15,
+            Self::NotText { .. } => 16,
+            Self::TooNested { .. } => 17,
             Self::Unlisted { code, .. } => code,
         }
     }
@@ -438,6 +482,8 @@ impl Error {
             | Self::NoMetresAsked { question: place }
             | Self::TooDeep { node: place }
             | Self::OtherTrees { found: place, .. }
+            | Self::NotText { byte: place }
+            | Self::TooNested { byte: place }
             | Self::Unlisted { place, .. } => place,
         }
     }
@@ -477,7 +523,9 @@ impl fmt::Display for Error {
             Self::NoSuchNode { node } => write!(f, "the tree has no node {node}"),
             Self::NoMetres => write!(f, "the image has no metres"),
             Self::NoMetresAsked { question } => write!(f, "question {question}: the image has no metres"),
-            Self::TooDeep { node } => write!(f, "node {node} is at depth 64, but a listing ends at depth 63"),
+            Self::TooDeep { node } => {
+                write!(f, "node {node} is at depth 64, but a listing or a text ends at depth 63")
+            }
             Self::OtherTrees { found, given } => {
                 write!(f, "the pack has {}, not {given}", Count(found as usize, "tree"))
             }
@@ -501,6 +549,8 @@ impl fmt::Display for Error {
                 )
             }
             Self::WrongSamples { block } => write!(f, "block {block} of the image has wrong samples"),
+            Self::NotText { byte } => write!(f, "byte {byte}: no text of one tree goes on, or ends, like this"),
+            Self::TooNested { byte } => write!(f, "byte {byte}: a 65th level is opened, but a text has at most 64"),
             Self::Unlisted { code, place } => {
                 write!(
                     f,
@@ -553,6 +603,12 @@ impl fmt::Display for WrongSize {
             Self::Questions { questions } => {
                 write!(f, "{}, but one call answers at most {MOST_QUESTIONS}", Count(questions, "question"))
             }
+            Self::TextTooLong { bytes } => {
+                write!(f, "a text of {}, but a text has at most {MOST_TEXT} bytes", Count(bytes, "byte"))
+            }
+            Self::TextNodes { nodes } => {
+                write!(f, "a text of {}, but a tree has 1 to {MOST_NODES} nodes", Count(nodes, "node"))
+            }
             Self::Unlisted => write!(f, "a count or a length is outside its limits, or two do not fit each other"),
         }
     }
@@ -569,7 +625,7 @@ mod tests {
 
     const QUESTIONS: [Question; 2] = [Question::Parent(Node::ROOT), Question::Leaf(Node::ROOT)];
 
-    const HANDED: [Handed; 11] = [
+    const HANDED: [Handed; 12] = [
         Handed::Parents { nodes: 7 },
         Handed::ParentsAndMetres { nodes: 7, metres: 7 },
         Handed::String { bytes: 2, bits: 15 },
@@ -581,6 +637,7 @@ mod tests {
         Handed::ImageAndNumbers { bytes: 2_560, numbers: 6 },
         Handed::ImageAndQuestions { bytes: 2_560, questions: &QUESTIONS },
         Handed::ImageAndNode { bytes: 2_560, node: 9 },
+        Handed::Text { text: b"(()" },
     ];
 
     #[test]
@@ -600,7 +657,7 @@ mod tests {
                     let says_place = with_place && error != Error::NoMetres;
                     assert!(!says_place || error.to_string().contains(&said.to_string()));
                     let of_a_pack = matches!(handed, Handed::Pack { .. } | Handed::PackAndParents { .. });
-                    let unlisted = code == 7 || code > 15 || code == 10 && !of_a_pack;
+                    let unlisted = code == 7 || code > 17 || code == 10 && !of_a_pack;
                     assert_eq!(matches!(error, Error::Unlisted { .. }), unlisted, "code {code}");
                 }
             }
@@ -651,9 +708,21 @@ mod tests {
             Handed::ImageAndQuestions { bytes: 2_560, questions: &[] },
             Handed::ImageAndQuestions { bytes: 293_888, questions: &[QUESTIONS[0]; 256] },
             Handed::ImageAndNode { bytes: 2_560, node: 0 },
+            Handed::Text { text: b"" },
+            Handed::Text { text: b"(())" },
+            Handed::Text { text: &[b'('; 65_535] },
+            Handed::Text { text: &[b' '; 1_048_576] },
         ] {
             assert_eq!(Error::new(2, 0, handed), Error::WrongSize(WrongSize::Unlisted));
         }
+    }
+
+    #[test]
+    fn a_text_is_too_long_before_it_has_too_many_nodes() {
+        let size = |text| Error::new(2, 0, Handed::Text { text });
+        assert_eq!(size(&[b'('; 1_048_577]), Error::WrongSize(WrongSize::TextTooLong { bytes: 1_048_577 }));
+        assert_eq!(size(&[b'('; 1_048_576]), Error::WrongSize(WrongSize::TextNodes { nodes: 1_048_576 }));
+        assert_eq!(size(&[b'('; 65_536]), Error::WrongSize(WrongSize::TextNodes { nodes: 65_536 }));
     }
 
     #[cfg(feature = "alloc")]

@@ -1,11 +1,11 @@
-//! A sealed store for one tree of up to 65,535 nodes (LOUDS++), and tree strings laid end to end: the eleven calls of
-//! `include/parlaqen.h` for Rust.
+//! A sealed store for one tree of up to 65,535 nodes (LOUDS++), tree strings laid end to end, and trees as parenthesis
+//! text: the thirteen calls of `include/parlaqen.h` for Rust.
 //!
 //! A parent list, with the metres of each node or without, is sealed to an [`Image`], which answers by itself: the
 //! parent, children and siblings of a [`Node`], lists of [`Question`]s, listings, and metres. [`TreeString`] and
-//! [`Pack`] are what is sent. All of them only hand over to
-//! the library, which makes every check itself: whatever is handed in, the answer is a result or an [`Error`] that says
-//! in words what is wrong and where, and has the library's code and place.
+//! [`Pack`] are what is sent, and a [`TreeText`] is what is exchanged with tools that have trees as text. All of them
+//! only hand over to the library, which makes every check itself: whatever is handed in, the answer is a result or an
+//! [`Error`] that says in words what is wrong and where, and has the library's code and place.
 //!
 //! Every method that asks an image makes the whole check of it, so ask many questions at once.
 //!
@@ -40,15 +40,15 @@
 //!
 //! The crate uses no `std`. The feature `alloc`, which is on by default, has everything that makes the room for its
 //! results itself: [`seal`], [`Seal::image`], [`Image::ask`], [`Image::list`], [`Image::parents`], [`Image::metres`],
-//! [`TreeString`] and [`Pack`]. Without it there are [`Image::seal_in`], [`Seal::image_in`], [`Image::ask_into`],
-//! [`Image::list_in`], and the eleven calls of the header in [`calls`]. Those take lent slices, for which [`size`] has
-//! the sizes; a refused call leaves every slice as it was.
+//! [`TreeString`], [`Pack`] and [`TreeText`]. Without it there are [`Image::seal_in`], [`Seal::image_in`],
+//! [`Image::ask_into`], [`Image::list_in`], and the thirteen calls of the header in [`calls`]. Those take lent slices,
+//! for which [`size`] has the sizes; a refused call leaves every slice as it was.
 //!
 //! # Fields
 //!
 //! Plain records of results, such as [`calls::Counts`], [`Part`] and [`Listed`], have public fields and no rule between
-//! them. Types that keep something true, such as [`Image`], [`Node`], [`Nodes`], [`Listing`], [`TreeString`] and
-//! [`Pack`], have private ones, and so has [`Seal`], which is made step by step.
+//! them. Types that keep something true, such as [`Image`], [`Node`], [`Nodes`], [`Listing`], [`TreeString`], [`Pack`]
+//! and [`TreeText`], have private ones, and so has [`Seal`], which is made step by step.
 
 #![no_std]
 // Links to what needs `alloc` lead nowhere without it; their names are still right.
@@ -75,6 +75,8 @@ pub mod size;
 mod strings;
 #[allow(unsafe_code)]
 mod sys;
+#[cfg(feature = "alloc")]
+mod text;
 
 pub use error::{Error, WrongSize};
 pub use image::Image;
@@ -86,6 +88,8 @@ pub use sealing::seal;
 pub use sealing::Seal;
 #[cfg(feature = "alloc")]
 pub use strings::{Pack, Part, TreeString};
+#[cfg(feature = "alloc")]
+pub use text::TreeText;
 
 /// What every call gives: its result, or why it was refused and where.
 ///
@@ -100,7 +104,7 @@ pub type Result<T> = core::result::Result<T, Error>;
 /// The version of this crate, which is that of the header it binds.
 ///
 /// ```
-/// assert!(parlaqen::VERSION.starts_with("0.5."));
+/// assert!(parlaqen::VERSION.starts_with("0.6."));
 /// ```
 pub const VERSION: &str = env!("CARGO_PKG_VERSION");
 /// The most nodes that a tree has.
@@ -132,6 +136,18 @@ pub const MOST_TREES: usize = 256;
 /// assert_eq!(answers.len(), 256);
 /// ```
 pub const MOST_QUESTIONS: usize = 256;
+/// The most bytes that a text has when it is read, its blanks among them.
+///
+/// ```
+/// use parlaqen::{calls::parents_of_text, Error, WrongSize, MOST_TEXT};
+///
+/// let mut text = vec![b' '; MOST_TEXT + 1];
+/// text[..2].copy_from_slice(b"()");
+/// assert_eq!(parents_of_text(&text[..MOST_TEXT], &mut [0]), Ok(1));
+/// let too_long = Error::WrongSize(WrongSize::TextTooLong { bytes: 1_048_577 });
+/// assert_eq!(parents_of_text(&text, &mut [0]), Err(too_long));
+/// ```
+pub const MOST_TEXT: usize = 1_048_576;
 /// The bytes of a block of an image.
 ///
 /// ```

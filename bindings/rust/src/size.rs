@@ -107,3 +107,13 @@ pub const fn bytes_of_bits(bits: usize) -> usize {
 pub const fn listing_numbers(nodes: usize) -> usize {
     nodes.saturating_mul(2)
 }
+
+/// The bytes of the parenthesis text of so many nodes as it is written, without blanks.
+///
+/// ```
+/// assert_eq!(parlaqen::size::text_bytes(7), 14);
+/// ```
+#[must_use]
+pub const fn text_bytes(nodes: usize) -> usize {
+    nodes.saturating_mul(2)
+}

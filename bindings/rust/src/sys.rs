@@ -1,4 +1,4 @@
-//! The eleven calls as `include/parlaqen.h` declares them, and all of this crate's unsafe code.
+//! The thirteen calls as `include/parlaqen.h` declares them, and all of this crate's unsafe code.
 
 #[repr(C)]
 pub(crate) struct Answer {
@@ -59,6 +59,8 @@ mod c {
             n: usize,
         ) -> Answer;
         pub fn plq_list(image: *const u8, nbytes: usize, node: u32, pairs: *mut u32, room: usize) -> Answer;
+        pub fn plq_parents_of_text(text: *const u8, nbytes: usize, parents: *mut u32, room: usize) -> Answer;
+        pub fn plq_text_of_parents(parents: *const u32, n: usize, text: *mut u8, room: usize) -> Answer;
     }
 }
 
@@ -137,4 +139,12 @@ pub(crate) fn join(pack: &mut [u8], bits: usize, trees: usize, parents: &[u32]) 
 
 pub(crate) fn list(image: &[u8], node: u32, pairs: &mut [u32]) -> Answer {
     lent!(plq_list(image.as_ptr(), image.len(), node, pairs.as_mut_ptr(), pairs.len()))
+}
+
+pub(crate) fn parents_of_text(text: &[u8], parents: &mut [u32]) -> Answer {
+    lent!(plq_parents_of_text(text.as_ptr(), text.len(), parents.as_mut_ptr(), parents.len()))
+}
+
+pub(crate) fn text_of_parents(parents: &[u32], text: &mut [u8]) -> Answer {
+    lent!(plq_text_of_parents(parents.as_ptr(), parents.len(), text.as_mut_ptr(), text.len()))
 }

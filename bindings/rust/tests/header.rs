@@ -4,11 +4,12 @@ mod common;
 
 use common::{binary, path, star};
 use parlaqen::calls::{
-    check_image, image_of_parents, image_with_metres, list, metres_of_image, string_of_parents, Counts,
+    check_image, image_of_parents, image_with_metres, list, metres_of_image, parents_of_text, string_of_parents,
+    text_of_parents, Counts,
 };
 use parlaqen::{
     size, Error, Node, Question, WrongSize, BLOCK_BYTES, MOST_BITS, MOST_IMAGE_BYTES, MOST_NODES, MOST_QUESTIONS,
-    MOST_TREES, MOST_TREE_IMAGE_BYTES, VERSION,
+    MOST_TEXT, MOST_TREES, MOST_TREE_IMAGE_BYTES, VERSION,
 };
 
 const HEADER: &str = include_str!("../../../include/parlaqen.h");
@@ -132,6 +133,7 @@ fn limits() {
     assert_eq!(header("PLQ_MOST_BITS"), MOST_BITS);
     assert_eq!(header("PLQ_MOST_TREES"), MOST_TREES);
     assert_eq!(header("PLQ_MOST_QUESTIONS"), MOST_QUESTIONS);
+    assert_eq!(header("PLQ_MOST_TEXT"), MOST_TEXT);
     assert_eq!(header("PLQ_BLOCK_BYTES"), BLOCK_BYTES);
     assert_eq!(header("PLQ_MOST_TREE_IMAGE_BYTES"), MOST_TREE_IMAGE_BYTES);
     assert_eq!(header("PLQ_MOST_IMAGE_BYTES"), MOST_IMAGE_BYTES);
@@ -193,12 +195,14 @@ fn codes() {
         ("PLQ_WRONG_STRINGS", Error::WrongStrings { block: 1 }),
         ("PLQ_WRONG_COUNTS", Error::WrongCounts { block: 1 }),
         ("PLQ_WRONG_SAMPLES", Error::WrongSamples { block: 3 }),
+        ("PLQ_NOT_TEXT", Error::NotText { byte: 1 }),
+        ("PLQ_TOO_NESTED", Error::TooNested { byte: 65 }),
     ];
     for (name, error) in codes {
         assert_eq!(header(name), error.code() as usize, "{name}");
     }
     let names = names_of_codes();
-    assert_eq!(names.len(), 15);
+    assert_eq!(names.len(), 17);
     for name in names {
         assert!(name == "PLQ_DONE" || codes.iter().any(|(known, _)| *known == name), "no error has the code {name}");
         assert_ne!(header(name), 7, "{name} has the number of a code that is retired");
@@ -225,6 +229,7 @@ fn sizes_are_those_of_the_macros() {
         assert_eq!(size::string_bytes(n), value("PLQ_STRING_BYTES", &[n]));
         assert_eq!(size::bytes_of_bits(n), value("PLQ_BYTES_OF_BITS", &[n]));
         assert_eq!(size::listing_numbers(n), value("PLQ_LISTING_NUMBERS", &[n]));
+        assert_eq!(size::text_bytes(n), value("PLQ_TEXT_BYTES", &[n]));
     }
     assert_eq!(size::image_room(MOST_NODES), MOST_TREE_IMAGE_BYTES);
     assert_eq!(size::image_room(MOST_NODES) + size::metres_bytes(MOST_NODES), MOST_IMAGE_BYTES);
@@ -277,6 +282,17 @@ fn sizes_are_those_of_the_library() {
         assert_eq!(list(&star, 1, &mut numbers), Ok(n));
         let one_less = numbers.len() - 1;
         assert_eq!(list(&star, 1, &mut numbers[..one_less]), Err(Error::NoRoom));
+
+        // and has a text
+        let star = common::star(nodes);
+        let mut text = vec![0; size::text_bytes(n)];
+        assert_eq!(text_of_parents(&star, &mut text), Ok(size::text_bytes(n)));
+        let one_less = text.len() - 1;
+        assert_eq!(text_of_parents(&star, &mut text[..one_less]), Err(Error::NoRoom));
+        let mut back = vec![0; n];
+        assert_eq!(parents_of_text(&text, &mut back), Ok(n));
+        assert_eq!(back, star);
+        assert_eq!(parents_of_text(&text, &mut back[..n - 1]), Err(Error::NoRoom));
     }
 }
 
@@ -289,5 +305,6 @@ fn no_size_wraps_to_a_small_one() {
         assert!(size::string_bytes(wrong) > MOST_BITS);
         assert!(size::bytes_of_bits(wrong) > MOST_BITS);
         assert!(size::listing_numbers(wrong) > 2 * MOST_NODES);
+        assert!(size::text_bytes(wrong) > MOST_TEXT);
     }
 }

@@ -10,7 +10,7 @@ use std::thread;
 
 use common::{image_of, image_of_t, image_of_t_with_metres, image_with_metres_of, metres, path, random, T};
 #[cfg(feature = "alloc")]
-use parlaqen::{seal, Pack, TreeString};
+use parlaqen::{seal, Pack, TreeString, TreeText};
 use parlaqen::{size, Answer, Error, Image, Listing, Node, Nodes, Question, Seal, BLOCK_BYTES, MOST_IMAGE_BYTES};
 
 fn node(number: u32) -> Node {
@@ -279,6 +279,7 @@ fn everything_goes_to_other_threads() {
     {
         sent::<TreeString>();
         sent::<Pack>();
+        sent::<TreeText>();
     }
 }
 

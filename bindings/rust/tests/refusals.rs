@@ -563,9 +563,11 @@ fn every_refusal_is_one_sentence() {
         (Error::NoSuchNode { node: 9 }, "the tree has no node 9"),
         (Error::NoMetres, "the image has no metres"),
         (Error::NoMetresAsked { question: 700 }, "question 700: the image has no metres"),
-        (Error::TooDeep { node: 65 }, "node 65 is at depth 64, but a listing ends at depth 63"),
+        (Error::TooDeep { node: 65 }, "node 65 is at depth 64, but a listing or a text ends at depth 63"),
         (Error::OtherTrees { found: 1, given: 3 }, "the pack has 1 tree, not 3"),
         (Error::OtherTrees { found: 2, given: 1 }, "the pack has 2 trees, not 1"),
+        (Error::NotText { byte: 7 }, "byte 7: no text of one tree goes on, or ends, like this"),
+        (Error::TooNested { byte: 65 }, "byte 65: a 65th level is opened, but a text has at most 64"),
         (
             Error::Unlisted { code: 77, place: 5 },
             "code 77, place 5: the archive that was linked is of another version than this crate",
@@ -593,6 +595,8 @@ fn every_refusal_is_one_sentence() {
         (WrongSize::ImageBlocks { blocks: 4 }, "an image of 4 blocks, but an image has 5 to 574"),
         (WrongSize::QuestionNumbers { numbers: 2 }, "2 numbers, but each question takes 3"),
         (WrongSize::Questions { questions: 257 }, "257 questions, but one call answers at most 256"),
+        (WrongSize::TextTooLong { bytes: 1_048_577 }, "a text of 1048577 bytes, but a text has at most 1048576 bytes"),
+        (WrongSize::TextNodes { nodes: 65_536 }, "a text of 65536 nodes, but a tree has 1 to 65535 nodes"),
         (WrongSize::Unlisted, "a count or a length is outside its limits, or two do not fit each other"),
     ];
     for (size, sentence) in sizes {

@@ -1,4 +1,4 @@
--- The eleven public calls: from what is lent to the answer and to what the lent lists hold
+-- The thirteen public calls: from what is lent to the answer and to what the lent lists hold
 -- afterwards, for any input.
 -- The refusals of each are in the order of document 01's table, "Numbers a caller gets back".
 use mathlib.Core.Bool.{Bool, false, not, _||_}
@@ -8,7 +8,7 @@ use Prim.Native.Nat.{ℕ, _+_, _*_, _/_, _%_}
 use lib.Dec.{ltb, eqb}
 use lib.IntN.{ℤ}
 use lib.ListN.{length}
-use Rattle.meaning.specs.Parents.{badEntry}
+use Rattle.meaning.specs.Parents.{parents, badEntry}
 use Rattle.meaning.specs.Strings.{ones, R1, parentsOf, stringOf}
 use Rattle.meaning.specs.Bytes.{bitsFrom, bytesFor, leftover, packed}
 use Rattle.meaning.specs.Scan.{one, place}
@@ -16,6 +16,8 @@ use Rattle.meaning.specs.Packs.{starts, sizes}
 use Rattle.meaning.specs.Image.{present, listOf, imageOfString, parentsIn, metresIn}
 use Rattle.meaning.specs.Questions.{questions, isNode, notAllowed, answerTo}
 use Rattle.meaning.specs.Listing.{listing, deep}
+use Rattle.meaning.specs.Brackets.{treeIn, bracketing}
+use Rattle.meaning.specs.Text.{textOf, bracketsIn, readText, brokenAt, deeperAt}
 use Rattle.meaning.specs.declared.Answer.{Answer}
 use Rattle.meaning.specs.Answers.{_at_when_, Outcome, counts, settle, written, tooShort}
 use Rattle.meaning.specs.Tests.{wrongToSplit, wrongToJoin, parentRows, checkRows, packRows}
@@ -155,6 +157,34 @@ joinPack pack L k ps =
     (counts longer (k + 1))
     (written (packed joined) pack)
 
+-- ---- Text.
+
+unfoldable pub parentsOfText : List ℕ → List ℕ → Outcome (List ℕ)
+parentsOfText text out =
+    let read = readText text in
+    let ps = parents (treeIn (bracketsIn text)) in
+    settle out
+    (2 at 0 when ltb 1048576 (length text)
+    ∷ 16 at brokenAt read when ltb 0 (brokenAt read)
+    ∷ 17 at deeperAt read when ltb 0 (deeperAt read)
+    ∷ 2 at 0 when ltb 65535 (length ps)
+    ∷ 1 at 0 when tooShort ps out
+    ∷ [])
+    (counts (length ps) 0)
+    (written ps out)
+
+unfoldable pub textOfParents : List ℕ → List ℕ → Outcome (List ℕ)
+textOfParents ps out =
+    let deepest = deep (listing 65 ps 1 0) in
+    let text = textOf (bracketing ps) in
+    settle out
+    (parentRows ps
+    ++ 9 at deepest when ltb 0 deepest
+    ∷ 1 at 0 when tooShort text out
+    ∷ [])
+    (counts (length text) 0)
+    (written text out)
+
 -- ---- All calls: a call with its inputs, and what comes back, the answer and each lent list that
 -- may be written.
 
@@ -170,6 +200,8 @@ pub data Call : Type 0 where
   list : (image : List ℕ) (x : ℕ) (listing : List ℕ) → Call
   split : (bytes : List ℕ) (L k : ℕ) (starts sizes : List ℕ) → Call
   join : (pack : List ℕ) (L k : ℕ) (parents : List ℕ) → Call
+  parents-of-text : (text parents : List ℕ) → Call
+  text-of-parents : (parents text : List ℕ) → Call
 
 pub record Back : Type 0 where
   pub answer : Answer
@@ -193,3 +225,5 @@ does (ask image qs out) = oneList (askImage image qs out)
 does (list image x out) = oneList (listImage image x out)
 does (split bytes L k starts sizes) = twoLists (splitPack bytes L k starts sizes)
 does (join pack L k ps) = oneList (joinPack pack L k ps)
+does (parents-of-text text out) = oneList (parentsOfText text out)
+does (text-of-parents ps out) = oneList (textOfParents ps out)

@@ -10,7 +10,8 @@ use Rattle.meaning.specs.Strings.{stringOf}
 use Rattle.meaning.specs.Blocks.{le32, wordBytes}
 use Rattle.meaning.specs.Image.{imageOfString}
 use Rattle.meaning.specs.Answers.{refusedWith, counts}
-use Rattle.calls.specs.Calls.{Call, string-of-parents, parents-of-string, image-of-parents, image-with-metres, parents-of-image, metres-of-image, check-image, ask, list, split, join, Back}
+use Rattle.calls.specs.Calls.{Call, string-of-parents, parents-of-string, image-of-parents, image-with-metres, parents-of-image, metres-of-image, check-image}
+use Rattle.calls.specs.Calls.{ask, list, split, join, parents-of-text, text-of-parents, Back}
 
 pub record Case : Type 0 where
   pub call : Call
@@ -75,6 +76,15 @@ measuredT : List ℕ
 unfolding treeT
 measuredT = treeT ++ block metresT 285 34790
 
+-- T as text, `((()())()(()))`
+abbrev textT : List ℕ
+textT = 40 ∷ 40 ∷ 40 ∷ 41 ∷ 40 ∷ 41 ∷ 41 ∷ 40 ∷ 41 ∷ 40 ∷ 40 ∷ 41 ∷ 41 ∷ 41 ∷ []
+
+-- n times `()`
+leaves : ℕ → List ℕ
+leaves zero = []
+leaves (suc n) = 40 ∷ 41 ∷ leaves n
+
 -- the parents of a path of n + 1 nodes: 0, 1, .., n
 path : ℕ → List ℕ
 path zero = 0 ∷ []
@@ -88,7 +98,7 @@ down (suc n) x d = x ∷ d ∷ down n (suc x) (suc d)
 -- ---- The table.
 
 unfoldable pub cases : List Case
-unfolding imageT treeT measuredT path down stringOf imageOfString
+unfolding imageT treeT measuredT leaves path down stringOf imageOfString
 cases =
     -- 1
     string-of-parents T (room 3) gives counts 15 1 with ((0xBB ∷ 0x20 ∷ 9 ∷ []) ∷ [])
@@ -175,4 +185,31 @@ cases =
     -- paths of 64 and of 65 nodes
     ∷ list (imageOfString none (stringOf (path 63))) 1 (room 128) gives counts 64 0 with (down 64 1 0 ∷ [])
     ∷ list (imageOfString none (stringOf (path 64))) 1 (room 130) gives code 9 place 65 with (room 130 ∷ [])
+    -- document 02, item 4: T as text, and back, with blanks and without; too little room
+    ∷ text-of-parents T (room 15) gives counts 14 0 with ((textT ++ room 1) ∷ [])
+    ∷ text-of-parents T (room 13) gives code 1 place 0 with (room 13 ∷ [])
+    ∷ parents-of-text textT (room 8) gives counts 7 0 with ((T ++ room 1) ∷ [])
+    ∷ parents-of-text (32 ∷ 13 ∷ 10 ∷ textT ++ 10 ∷ []) (room 7) gives counts 7 0 with (T ∷ [])
+    ∷ parents-of-text textT (room 6) gives code 1 place 0 with (room 6 ∷ [])
+    -- `((())())` in level order, and not in the order of its brackets
+    ∷ parents-of-text (40 ∷ 40 ∷ 40 ∷ 41 ∷ 41 ∷ 40 ∷ 41 ∷ 41 ∷ []) (room 4) gives counts 4 0 with ((0 ∷ 1 ∷ 1 ∷ 2 ∷ []) ∷ [])
+    -- no text, `)`, `(`, `()(`, `( )x`, blanks alone, a tab after the tree
+    ∷ parents-of-text [] (room 1) gives code 16 place 1 with (room 1 ∷ [])
+    ∷ parents-of-text (41 ∷ []) (room 1) gives code 16 place 1 with (room 1 ∷ [])
+    ∷ parents-of-text (40 ∷ []) (room 1) gives code 16 place 2 with (room 1 ∷ [])
+    ∷ parents-of-text (40 ∷ 41 ∷ 40 ∷ []) (room 1) gives code 16 place 3 with (room 1 ∷ [])
+    ∷ parents-of-text (40 ∷ 32 ∷ 41 ∷ 120 ∷ []) (room 1) gives code 16 place 4 with (room 1 ∷ [])
+    ∷ parents-of-text (32 ∷ 10 ∷ []) (room 1) gives code 16 place 3 with (room 1 ∷ [])
+    ∷ parents-of-text (40 ∷ 41 ∷ 9 ∷ []) (room 1) gives code 16 place 3 with (room 1 ∷ [])
+    -- 64 levels; a 65th, and with a wrong byte before it and after it
+    ∷ parents-of-text (replicate 64 40 ++ replicate 64 41) (room 64) gives counts 64 0 with (path 63 ∷ [])
+    ∷ parents-of-text (replicate 65 40 ++ replicate 65 41) (room 65) gives code 17 place 65 with (room 65 ∷ [])
+    ∷ parents-of-text (40 ∷ 120 ∷ replicate 64 40) [] gives code 16 place 2 with ([] ∷ [])
+    ∷ parents-of-text (replicate 65 40 ++ 120 ∷ []) [] gives code 17 place 65 with ([] ∷ [])
+    ∷ text-of-parents (path 63) (room 128) gives counts 128 0 with ((replicate 64 40 ++ replicate 64 41) ∷ [])
+    ∷ text-of-parents (path 64) [] gives code 9 place 65 with ([] ∷ [])
+    ∷ text-of-parents (0 ∷ 2 ∷ []) [] gives code 3 place 2 with ([] ∷ [])
+    -- 65,536 nodes, and with a stray byte
+    ∷ parents-of-text (40 ∷ leaves 65535 ++ 41 ∷ []) [] gives code 2 place 0 with ([] ∷ [])
+    ∷ parents-of-text (40 ∷ leaves 65535 ++ 41 ∷ 120 ∷ []) [] gives code 16 place 131073 with ([] ∷ [])
     ∷ []

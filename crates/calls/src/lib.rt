@@ -1,1 +1,1 @@
-// What each of the eleven public calls does, and the table of cases with its one proof; no code.
+// What each of the thirteen public calls does, and the table of cases with its one proof; no code.

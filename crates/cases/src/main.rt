@@ -1,9 +1,9 @@
 // A program that runs a script of cases through the exported calls and prints what comes back.
 // It reads the script: each line is a word and numbers (crate `cases_script`); a line that begins
-// with no such word is a remark. A tree, metres of its nodes, and bytes in hand (a string, a pack
-// or an image), stay from line to line. Each line is printed, and below it what the public call
-// answered and every list that it wrote to, whole. Such a list holds 9s before the call: what is
-// not written must stay. A number that a line lacks is 0, and a size is cut to what there is, so
+// with no such word is a remark. A tree, metres of its nodes, and bytes in hand (a string, a pack,
+// an image or a text), stay from line to line. Each line is printed, and below it what the public
+// call answered and every list that it wrote to, whole. Such a list holds 9s before the call: what
+// is not written must stay. A number that a line lacks is 0, and a size is cut to what there is, so
 // that every script is safe to run.
 use cases_script::Word;
 use cases_script::number;
@@ -25,6 +25,7 @@ fn call_bytes(
         Word::Encode => parlaqen::plq_string_of_parents(parents, list),
         Word::Image => parlaqen::plq_image_of_parents(parents, list),
         Word::Survey => parlaqen::plq_image_with_metres(parents, metres, list),
+        Word::Text => parlaqen::plq_text_of_parents(parents, list),
         _ => parlaqen::plq_join(list, size(numbers, 2), size(numbers, 3), parents),
     }
 }
@@ -37,6 +38,7 @@ fn make_in(word: Word, numbers: &[u32], parents: &[u32], metres: &[u32], list: &
 // encode NODES ROOM             the tree's string, in hand
 // image NODES ROOM              the tree's image, in hand
 // survey NODES ROOM METRES      the tree's image with so many of the metres, in hand
+// text NODES ROOM               the tree's text, in hand
 // join NODES ROOM BITS TREES    the tree's string after the pack in hand
 fn make(word: Word, numbers: &[u32], parents: &[u32], metres: &[u32], bytes: &mut [u8]) {
     let n = room(numbers, 0, parents.len());
@@ -95,6 +97,7 @@ fn call_words(word: Word, numbers: &[u32], bytes: &[u8], list: &mut [u32]) -> An
     match word {
         Word::Decode => parlaqen::plq_parents_of_string(bytes, size(numbers, 2), list),
         Word::Unseal => parlaqen::plq_parents_of_image(bytes, list),
+        Word::Untext => parlaqen::plq_parents_of_text(bytes, list),
         Word::Distances => parlaqen::plq_metres_of_image(bytes, list),
         Word::Ask => ask(numbers, bytes, list),
         _ => parlaqen::plq_list(bytes, number(numbers, 2), list),
@@ -112,7 +115,7 @@ fn read_in(
     cases_show::answered(call_words(word, numbers, bytes, list));
     cases_show::words(list);
     match word {
-        Word::Unseal => cases_show::equal(parents, list),
+        Word::Unseal | Word::Untext => cases_show::equal(parents, list),
         Word::Distances => cases_show::equal(metres, list),
         _ => {}
     }
@@ -120,6 +123,7 @@ fn read_in(
 
 // decode BYTES ROOM BITS        the parents that the string in hand gives
 // unseal BYTES ROOM             the parents of the image, and how many of them are the tree's
+// untext BYTES ROOM             the parents that the text gives, and how many are the tree's
 // distances BYTES ROOM          the metres of the image, and how many of them are those in hand
 // ask BYTES ROOM NUMBER..       questions to the image
 // list BYTES ROOM NODE          the listing from a node
@@ -160,13 +164,8 @@ fn view(numbers: &[u32], bytes: &[u8]) {
 fn look_at(word: Word, numbers: &[u32], parents: &[u32], metres: &[u32], bytes: &[u8]) {
     match word {
         Word::Check => cases_show::answered(parlaqen::plq_check_image(bytes)),
-        Word::Decode | Word::Unseal | Word::Distances | Word::Ask | Word::List => read(
-            word,
-            numbers,
-            parents,
-            metres,
-            bytes,
-        ),
+        Word::Decode | Word::Unseal | Word::Untext | Word::Distances | Word::Ask | Word::List =>
+            read(word, numbers, parents, metres, bytes),
         Word::Nodes => nodes(numbers, bytes),
         Word::Split => split(numbers, bytes),
         Word::View => view(numbers, bytes),
@@ -187,8 +186,12 @@ fn obey(word: Word, numbers: &[u32], parents: &mut [u32], metres: &mut [u32], by
             parents,
         ),
         Word::Metres | Word::Rise => cases_script::plant(word, numbers, metres),
-        Word::Hold | Word::Flip | Word::Reseal => cases_script::alter(word, numbers, bytes),
-        Word::Encode | Word::Image | Word::Survey | Word::Join => make(
+        Word::Hold | Word::Flip | Word::Reseal | Word::Pad => cases_script::alter(
+            word,
+            numbers,
+            bytes,
+        ),
+        Word::Encode | Word::Image | Word::Survey | Word::Text | Word::Join => make(
             word,
             numbers,
             parents,

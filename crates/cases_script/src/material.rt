@@ -1,5 +1,5 @@
 // What the calls of a script are made on: a tree, metres of its nodes, and bytes in hand (a string,
-// a pack or an image).
+// a pack, an image or a text).
 use crate::number;
 use crate::put_bytes;
 use crate::room;
@@ -124,16 +124,25 @@ fn reseal(numbers: &[u32], bytes: &mut [u8]) {
     }
 }
 
+fn pad(numbers: &[u32], bytes: &mut [u8]) {
+    let end = room(numbers, 0, bytes.len());
+    let from = room(numbers, 1, end);
+    fill(&mut bytes[0..end], from, (number(numbers, 2) % 256) as u8);
+}
+
 // hold BYTE..              these bytes, and 9s after them
 // flip PLACE BITS          changes bits of a byte
 // reseal BLOCKS            makes the sums of so many blocks right, up to the 574 of an image
-// Before a string or an image is made there are 9s as far as its room goes, and zeros after.
+// pad END FROM BYTE        makes the bytes from one place up to another all the same
+// Before a string, an image or a text is made there are 9s as far as its room goes, and zeros
+// after.
 pub fn alter(word: Word, numbers: &[u32], bytes: &mut [u8]) {
     match word {
         Word::Hold => hold(numbers, bytes),
         Word::Flip => flip(numbers, bytes),
         Word::Reseal => reseal(numbers, bytes),
-        Word::Encode | Word::Image | Word::Survey => clear(numbers, bytes),
+        Word::Pad => pad(numbers, bytes),
+        Word::Encode | Word::Image | Word::Survey | Word::Text => clear(numbers, bytes),
         _ => {}
     }
 }

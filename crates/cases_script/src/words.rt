@@ -1,7 +1,7 @@
 // The words of a script.
 
 // What the first word of a line asks for: a tree, up to `Mixed`, metres, up to `Rise`, and other
-// bytes in hand, up to `Reseal`, as `material` says; then what the program `cases` does.
+// bytes in hand, up to `Pad`, as `material` says; then what the program `cases` does.
 pub enum Word {
     Parents,
     Grow,
@@ -12,12 +12,15 @@ pub enum Word {
     Hold,
     Flip,
     Reseal,
+    Pad,
     Encode,
     Image,
     Survey,
     Join,
+    Text,
     Decode,
     Unseal,
+    Untext,
     Distances,
     Ask,
     List,
@@ -73,6 +76,9 @@ pub fn word_of(line: &[u8]) -> Word {
     if is_word(line, b"reseal") {
         return Word::Reseal;
     }
+    if is_word(line, b"pad") {
+        return Word::Pad;
+    }
     if is_word(line, b"encode") {
         return Word::Encode;
     }
@@ -85,11 +91,17 @@ pub fn word_of(line: &[u8]) -> Word {
     if is_word(line, b"join") {
         return Word::Join;
     }
+    if is_word(line, b"text") {
+        return Word::Text;
+    }
     if is_word(line, b"decode") {
         return Word::Decode;
     }
     if is_word(line, b"unseal") {
         return Word::Unseal;
+    }
+    if is_word(line, b"untext") {
+        return Word::Untext;
     }
     if is_word(line, b"distances") {
         return Word::Distances;

@@ -1,38 +1,15 @@
--- A table filled from its front, and the ones before each word as the sums of those in the words
--- before it.
-use mathlib.Core.Path.{_≡_, refl, sym, ap, _∙_}
+-- The ones before each word as the sums of those in the words before it.
+use mathlib.Core.Path.{_≡_, ap, _∙_}
 use mathlib.Core.List.{List}
 use Prim.Native.Nat.{ℕ, zero, suc, _+_, _*_, _≤_, _<_}
-use native.Mathlib.Decide.{decLt}
-use native.Mathlib.Numerals.{add-one}
 use native.Mathlib.Omega.{arith}
 use lib.ListN.{length, getD, set, length-set}
-use lib.Seq.{getD-set-same, getD-set-other}
 use Rattle.meaning.specs.Strings.{ones}
 use Rattle.meaning.specs.Bytes.{bitsFrom}
-use Rattle.check_sample_table.specs.Table.{WordCounts, CountsBefore, sumTo}
+use Rattle.theory.specs.Tables.{sumTo}
+use Rattle.theory.proofs.Tables.{filled-more, kept-more, sum-next}
+use Rattle.check_sample_table.specs.Table.{WordCounts, CountsBefore}
 use Rattle.bits_count.proofs.Runs.{bits-ones-le, no-bits, ones-after}
-
--- a table filled from its front
-module _ (f : ℕ → ℕ) (table : List ℕ) (w v : ℕ) where
-  pub filled-more : w < length table → v ≡ f w → ((q : ℕ) → q < w → getD table q 0 ≡ f q) → (q : ℕ) → q < w + 1 → getD (set table w v) q 0 ≡ f q
-  filled-more h e all q l = elim (decLt q w) [
-    | yes g ↦ getD-set-other table w q v 0 (λ d. absurd (omega arith)) ∙ all q g
-    | no g ↦
-        let d : q ≡ w = omega arith in
-        ap (λ x. getD (set table w v) x 0) d ∙ getD-set-same table w v 0 h ∙ e ∙ ap f (sym d)
-  ]
-
-  pub kept-more : ((q : ℕ) → w ≤ q → getD table q 0 ≡ f q) → (q : ℕ) → w + 1 ≤ q → getD (set table w v) q 0 ≡ f q
-  kept-more all q l = getD-set-other table w q v 0 (λ d. absurd (omega arith)) ∙ all q (omega arith)
-
-pub sum-next : (xs : List ℕ) (w : ℕ) → sumTo xs (w + 1) ≡ sumTo xs w + getD xs w 0
-unfolding sumTo
-sum-next xs w = ap (sumTo xs) (add-one w)
-
-pub sum-none : (xs : List ℕ) → 0 ≡ sumTo xs 0
-unfolding sumTo
-sum-none xs = refl
 
 -- the first w numbers of a table have been put in their places
 abbrev pub Summed : List ℕ → List ℕ → ℕ → ℕ → Type 0

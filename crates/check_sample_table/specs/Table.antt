@@ -1,7 +1,7 @@
 -- Tables of the ones of words of eight bytes.
 use mathlib.Core.Path.{_≡_}
 use mathlib.Core.List.{List}
-use Prim.Native.Nat.{ℕ, zero, suc, _+_, _*_, _<_}
+use Prim.Native.Nat.{ℕ, _+_, _*_, _<_}
 use lib.ListN.{getD}
 use Rattle.meaning.specs.Strings.{ones}
 use Rattle.meaning.specs.Bytes.{bitsFrom}
@@ -13,8 +13,3 @@ WordCounts bytes at table = (w : ℕ) → w < 63 → getD table w 0 ≡ ones (bi
 
 abbrev pub CountsBefore : List ℕ → ℕ → List ℕ → Type 0
 CountsBefore bytes at table = (w : ℕ) → w < 63 → getD table w 0 ≡ ones (bitsFrom bytes (8 * at) (64 * w))
-
--- what the first w numbers come to
-unfoldable pub sumTo : List ℕ → ℕ → ℕ
-sumTo xs zero = 0
-sumTo xs (suc w) = sumTo xs w + getD xs w 0

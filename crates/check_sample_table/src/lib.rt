@@ -2,7 +2,8 @@
 ghost use mathlib.Core.Path.{_≡_};
 ghost use Prim.Native.Nat.{ℕ, _+_, _*_, _≤_, _<_};
 ghost use lib.ListN.{getD, length, set};
-ghost use Rattle.check_sample_table.specs.Table.{WordCounts, sumTo};
+ghost use Rattle.theory.specs.Tables.{sumTo};
+ghost use Rattle.check_sample_table.specs.Table.{WordCounts};
 use bits_word::ones_in_word;
 
 // How many bits of each of 63 words of eight bytes from byte `at` on are one. Each by itself, so

@@ -1,7 +1,7 @@
 -- In an image that the check found sound: the ones before a zero, as its strings give them, are
 -- those of its tree's string; and what single bits of its strings tell of them.
-use mathlib.Core.Path.{_≡_, refl, sym, ap, ap₂, _∙_, subst}
-use mathlib.Core.List.{List, [], _∷_}
+use mathlib.Core.Path.{_≡_, refl, sym, ap, ap₂, _∙_}
+use mathlib.Core.List.{List}
 use Prim.Native.Nat.{ℕ, zero, suc, _+_, _-_, _≤_, _<_}
 use native.Mathlib.Decide.{decLt}
 use native.Mathlib.Numerals.{add-one}
@@ -21,7 +21,7 @@ use Rattle.theory.proofs.Bits.{I≢O}
 use Rattle.theory.proofs.Scan.{nodes-ones}
 use Rattle.theory.proofs.Odd.{tree-counts}
 use Rattle.theory.proofs.Forms.{length-parents, string-parents}
-use Rattle.theory.proofs.Navigate.{counted, children-are, ones-before-is, onesBefore-mono, is-placed}
+use Rattle.theory.proofs.Navigate.{counted, children-are, ones-before-is, onesBefore-mono, onesBefore-upto, onesBefore-all, is-placed}
 use Rattle.theory.proofs.TreeImages.{is-image, parents-in}
 use Rattle.theory.proofs.Stages.{image-stages, parts-read}
 use Rattle.image_layout.specs.declared.Layout.{Layout}
@@ -33,12 +33,6 @@ use Rattle.nav_sibling_range.proofs.Own.{strings}
 use Rattle.list_measure.specs.Levels.{onesBeforeIn}
 
 -- ---- of any bits
-
-before-most : (bs : List Bit) (z : ℕ) → onesBefore bs z ≤ ones bs
-before-most [] z = omega arith
-before-most (b ∷ bs) zero = omega arith
-before-most (I ∷ bs) (suc z) = omega (arith, before-most bs (suc z))
-before-most (O ∷ bs) (suc z) = before-most bs z
 
 -- as many numbers in a row as a node has children: none exactly if the bit is 0
 some-or-none : (v : Bit) (i m mark : ℕ) → isNone (length (counting i m)) ≡ whereZero v 1 0 → mark ≡ value v → (mark ≡ 0 → m ≡ 0) × ((mark ≡ 0 → ⊥) → 0 < m)
@@ -74,15 +68,12 @@ module _ (bytes : List ℕ) (i : Layout) (found : checked bytes ≡ Sound i) whe
   onesBeforeIn-mono z = onesBefore-mono (stringOf (parentsIn bytes)) z
 
   pub onesBeforeIn-upto : (y z : ℕ) → y ≤ z → onesBeforeIn bytes y ≤ onesBeforeIn bytes z
-  onesBeforeIn-upto y z h = subst (λ k. onesBeforeIn bytes y ≤ onesBeforeIn bytes k) (let e : y + (z - y) ≡ z = omega arith in e) (go (z - y))
-    where
-      go : (m : ℕ) → onesBeforeIn bytes y ≤ onesBeforeIn bytes (y + m)
-      go zero = omega (arith, ap (onesBeforeIn bytes) (let e : y ≡ y + 0 = omega arith in e))
-      go (suc m) = omega (arith, go m, onesBeforeIn-mono (y + m), ap (onesBeforeIn bytes) (let e : suc (y + m) ≡ y + suc m = omega arith in e))
+  unfolding onesBeforeIn
+  onesBeforeIn-upto y z h = onesBefore-upto (stringOf (parentsIn bytes)) y z h
 
   pub onesBeforeIn-most : (z : ℕ) → onesBeforeIn bytes z ≤ i .nodes
   unfolding onesBeforeIn
-  onesBeforeIn-most z = let r = tree in omega (arith, before-most (stringOf (parentsIn bytes)) z, ap ones (r .3), nodes-ones (r .0), r .4)
+  onesBeforeIn-most z = let r = tree in omega (arith, onesBefore-all (stringOf (parentsIn bytes)) z, ap ones (r .3), nodes-ones (r .0), r .4)
 
   pub onesBeforeIn-kids : (x : ℕ) → childrenOf (parentsIn bytes) x ≡ counting (suc (onesBeforeIn bytes x)) (onesBeforeIn bytes (suc x) - onesBeforeIn bytes x)
   unfolding onesBeforeIn

@@ -14,6 +14,9 @@ use Rattle.meaning.specs.Image.{imageOfString, headerWord, stringIn, met
 use Rattle.meaning.specs.Faults.{isHeader, areStrings, wrongKept, wrongSample}
 use Rattle.meaning.specs.Questions.{rankOf, siblingAt, Question, questions, notAllowed}
 use Rattle.meaning.specs.Listing.{listing, deep}
+use Rattle.meaning.specs.Parents.{parents}
+use Rattle.meaning.specs.Brackets.{brackets, treeIn, bracketing}
+use Rattle.meaning.specs.Text.{textOf, bracketsIn, whole, broken, deeper, readText}
 use Rattle.meaning.specs.Answers.{_at_when_, cameTo, refusedWith, counts, firstHolding, settle}
 use Rattle.meaning.specs.Tests.{wrongCount, checkRows}
 use Rattle.meaning.specs.declared.Verdict.the-variants.{Refused}
@@ -155,3 +158,46 @@ too-deep = refl
 refused-unchanged : settle {A = ℕ} 5 (4 at 2 when true ∷ []) (counts 7 7) 6 ≡ cameTo (refusedWith 4 2) 5
 unfolding settle
 refused-unchanged = refl
+
+-- T as brackets and as text, `((()())()(()))`, and back
+textT : List ℕ
+textT = 40 ∷ 40 ∷ 40 ∷ 41 ∷ 40 ∷ 41 ∷ 41 ∷ 40 ∷ 41 ∷ 40 ∷ 40 ∷ 41 ∷ 41 ∷ 41 ∷ []
+
+text-of-T : textOf (bracketing T) ≡ textT
+unfolding textT textOf bracketing
+text-of-T = refl
+
+tree-of-text : parents (treeIn (bracketsIn textT)) ≡ T
+unfolding textT bracketsIn treeIn parents
+tree-of-text = refl
+
+brackets-of-tree : brackets (treeIn (bracketsIn textT)) ≡ bracketsIn textT
+unfolding textT bracketsIn treeIn brackets
+brackets-of-tree = refl
+
+-- blanks may be anywhere, after the tree too; a tab may not
+blanks-anywhere : readText (32 ∷ 40 ∷ 10 ∷ 40 ∷ 41 ∷ 13 ∷ 41 ∷ 32 ∷ []) ≡ whole
+unfolding readText
+blanks-anywhere = refl
+
+no-tab : readText (40 ∷ 41 ∷ 9 ∷ []) ≡ broken 3
+unfolding readText
+no-tab = refl
+
+-- no text, and a second tree
+no-text : readText [] ≡ broken 1
+unfolding readText
+no-text = refl
+
+second-tree : readText (40 ∷ 41 ∷ 40 ∷ 41 ∷ []) ≡ broken 3
+unfolding readText
+second-tree = refl
+
+-- 64 levels, and a 65th before a wrong byte
+most-levels : readText (replicate 64 40 ++ replicate 64 41) ≡ whole
+unfolding readText
+most-levels = refl
+
+level-too-many : readText (replicate 65 40 ++ 120 ∷ []) ≡ deeper 65
+unfolding readText
+level-too-many = refl

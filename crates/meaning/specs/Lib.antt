@@ -10,5 +10,7 @@ pub mod Faults
 pub mod Places
 pub mod Questions
 pub mod Listing
+pub mod Brackets
+pub mod Text
 pub mod Answers
 pub mod Tests

@@ -32,11 +32,16 @@ pub record Good (kind : Kind) (bs : List Bit) : Type 0 where
 abbrev pub Begins : Kind → List Bit → Type 0
 Begins kind bs = (rest : List Bit) × Good kind (bs ++ rest)
 
--- p is the first number such that the first p bits begin none; length + 1 if there is no such p
-pub record Place (kind : Kind) (bs : List Bit) (p : ℕ) : Type 0 where
-  pub inside : p ≤ suc (length bs)
-  pub before : (q : ℕ) → q < p → Begins kind (take q bs)
-  pub here : p ≤ length bs → Begins kind (take p bs) → ⊥
+-- p is the first number such that the first p of a list begin none; length + 1 if there is no such
+-- p
+pub record FirstNone {A : Type 0} (Begins : List A → Type 0) (xs : List A) (p : ℕ) : Type 0 where
+  pub inside : p ≤ suc (length xs)
+  pub before : (q : ℕ) → q < p → Begins (take q xs)
+  pub here : p ≤ length xs → Begins (take p xs) → ⊥
+
+-- of bits that are to be one string, or strings end to end
+abbrev pub Place : Kind → List Bit → ℕ → Type 0
+Place kind bs p = FirstNone (Begins kind) bs p
 
 -- ---- How it is read, from left to right: a tree is over at the first bit where no node is
 -- pending.

@@ -52,6 +52,10 @@ pub const WRONG_COUNTS: u32 = 14;
 
 pub const WRONG_SAMPLES: u32 = 15;
 
+pub const NOT_TEXT: u32 = 16;
+
+pub const TOO_NESTED: u32 = 17;
+
 pub const MOST_NODES: usize = 65535;
 
 pub const MOST_BITS: usize = 131071;
@@ -64,7 +68,14 @@ pub const FEWEST_BLOCKS: usize = 5;
 
 pub const MOST_BLOCKS: usize = 574;
 
+pub const MOST_TEXT: usize = 1048576;
+
 // The versions of an image: the tree alone, or with the metres of each node.
 pub const TREE_ALONE: u32 = 1;
 
 pub const WITH_METRES: u32 = 2;
+
+// `(` and `)`, by which a text opens and closes a node.
+pub const OPENING: u8 = 40;
+
+pub const CLOSING: u8 = 41;

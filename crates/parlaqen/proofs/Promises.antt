@@ -8,9 +8,11 @@ use Prim.Native.Nat.{ℕ}
 use Rattle.meaning.specs.declared.Answer.{Answer}
 use Rattle.meaning.specs.Parents.{badEntry}
 use Rattle.meaning.specs.Answers.{Row, Outcome, counts, refusedWith, cameTo, settle}
-use Rattle.calls.specs.Calls.{string-of-parents, parents-of-string, image-of-parents, image-with-metres, parents-of-image, metres-of-image, check-image, ask, list, split, join, does}
+use Rattle.calls.specs.Calls.{string-of-parents, parents-of-string, image-of-parents, image-with-metres, parents-of-image, metres-of-image, check-image}
+use Rattle.calls.specs.Calls.{ask, list, split, join, parents-of-text, text-of-parents, does}
 use Rattle.meaning.specs.Tests.{parentRows, checkRows, packRows}
 use Rattle.calls.specs.Calls.{stringOfParents, parentsOfString, sealParents, imageOfParents, imageWithMetres, checkImage, parentsOfImage, metresOfImage, askImage, listImage, splitPack, joinPack}
+use Rattle.calls.specs.Calls.{parentsOfText, textOfParents}
 use Rattle.theory.proofs.Settled.{settle-here, settle-on, settle-none}
 use Rattle.theorems.proofs.Promises as Theory
 use Rattle.string_promises.proofs.Promises as Strings
@@ -20,6 +22,7 @@ use Rattle.image_promises.proofs.NoMetres as NoMetres
 use Rattle.image_promises.proofs.Root as Root
 use Rattle.image_promises.proofs.Faults as Faults
 use Rattle.image_promises.proofs.FaultyBlocks as Blocks
+use Rattle.text_promises.proofs.Promises as Texts
 use Rattle.outline_page.proofs.Promises as Outline
 use Rattle.parlaqen.specs.Promises as P
 use Rattle.parlaqen.specs.Promises.{OneOf}
@@ -89,6 +92,7 @@ sealed ms ps out =
 
 done-or-refused : P.DoneOrRefused
 unfolding does stringOfParents parentsOfString sealParents imageOfParents imageWithMetres parentRows checkRows packRows checkImage parentsOfImage metresOfImage askImage listImage splitPack joinPack
+    parentsOfText textOfParents
 done-or-refused (string-of-parents ps out) = settled out (λ x. x ∷ []) _ (stringOfParents ps out) (settle-placed _ _ _ _ _)
 done-or-refused (parents-of-string bytes L out) = settled out (λ x. x ∷ []) _ (parentsOfString bytes L out) (settle-placed _ _ _ _ _)
 done-or-refused (image-of-parents ps out) = sealed none ps out
@@ -101,6 +105,8 @@ done-or-refused (list image x out) = settled out (λ x. x ∷ []) _ (listImage i
 done-or-refused (split bytes L k starts sizes) =
     settled (starts, sizes) (λ x. x .0 ∷ x .1 ∷ []) _ (splitPack bytes L k starts sizes) (settle-placed _ _ _ _ _)
 done-or-refused (join pack L k ps) = settled pack (λ x. x ∷ []) _ (joinPack pack L k ps) (settle-placed _ _ _ _ _)
+done-or-refused (parents-of-text text out) = settled out (λ x. x ∷ []) _ (parentsOfText text out) (settle-placed _ _ _ _ _)
+done-or-refused (text-of-parents ps out) = settled out (λ x. x ∷ []) _ (textOfParents ps out) (settle-placed _ _ _ _ _)
 
 -- ---- one outcome
 
@@ -178,6 +184,19 @@ kept = record {
   listed-of-tree = Images.listed-of-tree;
   listed-exactly = Images.listed-exactly;
   too-deep-is-named = Images.too-deep-is-named;
+  levels-are-depths = Texts.levels-are-depths;
+  brackets-of-one-tree = Texts.brackets-of-one-tree;
+  text-written-then-read = Texts.text-written-then-read;
+  text-read-then-written = Texts.text-read-then-written;
+  text-accepted = Texts.text-accepted-exactly;
+  text-gives-its-tree = Texts.text-gives-its-tree;
+  text-written = Texts.text-written-exactly;
+  text-refused-there = Texts.text-refused-there;
+  text-broken-there = Texts.text-broken-there;
+  text-too-nested-there = Texts.text-too-nested-there;
+  text-too-long = Texts.text-too-long;
+  text-too-many-nodes = Texts.text-too-many-nodes;
+  text-too-deep-is-named = Texts.text-too-deep-is-named;
   one-list = Theory.one-list;
   none-begins = Theory.none-begins;
   pack-bits-accepted = Theory.pack-accepted;
@@ -203,6 +222,7 @@ kept = record {
   join-by-held = Packs.join-by-held;
   held-by-scan = Packs.held-by-scan;
   listed-by-measure = Images.listed-by-measure;
+  text-by-found = Texts.text-by-found;
   each-node-has-its-line = Outline.each-node-has-its-line;
   only-the-heading = Outline.only-the-heading;
   short-without-metres = Outline.short-without-metres;

@@ -1,8 +1,8 @@
 -- What the store promises, in the order of the customer's demands. Each name is a statement about
--- the eleven calls as functions of what is lent (calls/specs/Calls.antt); the contract of each
+-- the thirteen calls as functions of what is lent (calls/specs/Calls.antt); the contract of each
 -- exported call is an equation with its function, so what is said here is said of the code.
--- `Promises`, at the end, is all of them, with those of the theory, of strings, packs and images,
--- and of the outline; proofs/Promises.antt keeps it.
+-- `Promises`, at the end, is all of them, with those of the theory, of strings, packs, images and
+-- texts, and of the outline; proofs/Promises.antt keeps it.
 use mathlib.Core.Path.{_≡_}
 use mathlib.Core.List.{List, [], _∷_}
 use mathlib.Core.Logic.{_⊎_}
@@ -18,16 +18,19 @@ use Rattle.meaning.specs.Image.{present, parentsIn, metresIn}
 use Rattle.meaning.specs.Faults.{wrongKept, wrongSample}
 use Rattle.meaning.specs.Questions.{questions, notAllowed}
 use Rattle.meaning.specs.Listing.{listing, deep}
+use Rattle.meaning.specs.Text.{readText, brokenAt, deeperAt}
 use Rattle.meaning.specs.Answers.{Outcome, cameTo}
-use Rattle.calls.specs.Calls.{Call, string-of-parents, parents-of-string, image-of-parents, image-with-metres, parents-of-image, metres-of-image, check-image, ask, list, split, join, does}
+use Rattle.calls.specs.Calls.{Call, string-of-parents, parents-of-string, image-of-parents, image-with-metres, parents-of-image, metres-of-image, check-image}
+use Rattle.calls.specs.Calls.{ask, list, split, join, parents-of-text, text-of-parents, does}
 use Rattle.theorems.specs.Promises as Theory
 use Rattle.string_promises.specs.Promises as Strings
 use Rattle.pack_promises.specs.Promises as Packs
 use Rattle.image_promises.specs.Promises as Images
 use Rattle.image_promises.specs.Faults as Faults
+use Rattle.text_promises.specs.Promises as Texts
 use Rattle.outline_page.specs.Promises as Outline
 
--- ---- Demand 1. A `Call` is one of the eleven with its inputs, whatever they are; `does` is what
+-- ---- Demand 1. A `Call` is one of the thirteen with its inputs, whatever they are; `does` is what
 -- it comes to.
 
 -- the refusals that the documents' table has for a call: each code with its place
@@ -49,6 +52,8 @@ listed (list image x out) =
     ∷ (8, 1) ∷ (9, deep (listing 65 (parentsIn image) x 0)) ∷ (1, 0) ∷ []
 listed (split bytes L k starts sizes′) = (2, 0) ∷ (5, 0) ∷ (4, place many (bitsFrom bytes 0 L)) ∷ (10, length (sizes (bitsFrom bytes 0 L))) ∷ (1, 0) ∷ []
 listed (join pack L k ps) = (2, 0) ∷ (5, 0) ∷ (4, place many (bitsFrom pack 0 L)) ∷ (10, length (sizes (bitsFrom pack 0 L))) ∷ (3, badEntry ps) ∷ (1, 0) ∷ []
+listed (parents-of-text text out) = (2, 0) ∷ (16, brokenAt (readText text)) ∷ (17, deeperAt (readText text)) ∷ (2, 0) ∷ (1, 0) ∷ []
+listed (text-of-parents ps out) = (2, 0) ∷ (3, badEntry ps) ∷ (9, deep (listing 65 ps 1 0)) ∷ (1, 0) ∷ []
 
 -- the lent lists that a call may write, as they are before it
 abbrev pub lentTo : Call → List (List ℕ)
@@ -63,6 +68,8 @@ lentTo (ask image qs out) = out ∷ []
 lentTo (list image x out) = out ∷ []
 lentTo (split bytes L k starts sizes′) = starts ∷ sizes′ ∷ []
 lentTo (join pack L k ps) = pack ∷ []
+lentTo (parents-of-text text out) = out ∷ []
+lentTo (text-of-parents ps out) = out ∷ []
 
 abbrev pub OneOf : ℕ → ℕ → List (ℕ × ℕ) → Type 0
 OneOf code place [] = ⊥
@@ -197,6 +204,26 @@ pub record Promises : Type 1 where
   pub listed-exactly : Images.ListedExactly
   -- code 9 names the first node in listing order at depth 64
   pub too-deep-is-named : Images.TooDeepIsNamed
+  -- document 02, item 4: any tree of at most 64 levels comes back the same from its text; writing,
+  -- then reading, gives the tree, and reading, then writing, the text without blanks
+  pub levels-are-depths : Texts.LevelsAreDepths
+  pub brackets-of-one-tree : Texts.BracketsOfOneTree
+  pub text-written-then-read : Texts.TextWrittenThenRead
+  pub text-read-then-written : Texts.TextReadThenWritten
+  -- a text is accepted exactly if it is one tree within the limits, and gives that tree
+  pub text-accepted : Texts.TextAcceptedExactly
+  pub text-gives-its-tree : Texts.TextGivesItsTree
+  pub text-written : Texts.TextWrittenExactly
+  -- 16: no tree of any depth or size, at the first byte at which it cannot be continued; 17: a 65th
+  -- level, at its byte; the earlier byte wins
+  pub text-refused-there : Texts.TextRefusedThere
+  pub text-broken-there : Texts.TextBrokenThere
+  pub text-too-nested-there : Texts.TextTooNestedThere
+  -- code 2 first for a text that is too long, and after 16 and 17 for too many nodes
+  pub text-too-long : Texts.TextTooLong
+  pub text-too-many-nodes : Texts.TextTooManyNodes
+  -- writing a tree of more than 64 levels is code 9, as for the listing of its root
+  pub text-too-deep-is-named : Texts.TextTooDeepIsNamed
   -- Demand 3. Strings end to end: no other list gives those bits, and no tree's string is the
   -- beginning of another tree's
   pub one-list : Theory.OneList
@@ -228,7 +255,7 @@ pub record Promises : Type 1 where
   -- For any answer that is an enum a definition gives document 01's number and values for each
   -- case, and a call comes to them:
   -- what the check finds, what is wrong with an image, the end of a string's tree, what a pack is
-  -- refused for and what its scan finds, what a listing takes
+  -- refused for and what its scan finds, what a listing takes, what a text is read as
   pub checked-by-found : Images.CheckedByFound
   pub refused-by-fault : Faults.RefusedByFault
   pub read-by-end : Strings.ReadByEnd
@@ -236,6 +263,7 @@ pub record Promises : Type 1 where
   pub join-by-held : Packs.JoinByHeld
   pub held-by-scan : Packs.HeldByScan
   pub listed-by-measure : Images.ListedByMeasure
+  pub text-by-found : Texts.TextByFound
   -- The outline prints n, m and blocks, then, if n is at most 4,000, a line for each node in
   -- listing order: number, depth, degree, and its metres where there are any
   pub each-node-has-its-line : Outline.EachNodeHasItsLine

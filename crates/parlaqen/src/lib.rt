@@ -1,8 +1,8 @@
-// The eleven public calls, for C and Rust: include/parlaqen.h declares them. Each is one call of
+// The thirteen public calls, for C and Rust: include/parlaqen.h declares them. Each is one call of
 // its layer, with the same contract.
 ghost use mathlib.Core.Path.{_≡_};
 ghost use Rattle.meaning.specs.Answers.{cameTo};
-ghost use Rattle.calls.specs.Calls.{stringOfParents, parentsOfString, imageOfParents, imageWithMetres, parentsOfImage, metresOfImage, checkImage, askImage, listImage, splitPack, joinPack};
+ghost use Rattle.calls.specs.Calls.{stringOfParents, parentsOfString, imageOfParents, imageWithMetres, parentsOfImage, metresOfImage, checkImage, askImage, listImage, splitPack, joinPack, parentsOfText, textOfParents};
 use meaning::Answer;
 
 #[no_mangle]
@@ -86,4 +86,18 @@ pub extern "C" fn plq_list(image: &[u8], node: u32, pairs: &mut [u32]) -> Answer
     ensures { λ r. ⌜ cameTo r (now (pairs .exit)) ≡ listImage (now (image .entry)) node (now (pairs .entry)) ⌝ }
 {
     call_list::list(image, node, pairs)
+}
+
+#[no_mangle]
+pub extern "C" fn plq_parents_of_text(text: &[u8], parents: &mut [u32]) -> Answer
+    ensures { λ r. ⌜ cameTo r (now (parents .exit)) ≡ parentsOfText (now (text .entry)) (now (parents .entry)) ⌝ }
+{
+    call_parents_of_text::parents_of_text(text, parents)
+}
+
+#[no_mangle]
+pub extern "C" fn plq_text_of_parents(parents: &[u32], text: &mut [u8]) -> Answer
+    ensures { λ r. ⌜ cameTo r (now (text .exit)) ≡ textOfParents (now (parents .entry)) (now (text .entry)) ⌝ }
+{
+    call_text_of_parents::text_of_parents(parents, text)
 }

@@ -77,11 +77,11 @@ shallow-below k (v ∷ vs) = elim (decLt (depth v) k) [
 
 -- ---- where no node is at depth k, none is deeper: what is deeper has an ancestor there
 
-all-split : (k : ℕ) (vs ws : List Node) → AllBelow k (vs ++ ws) → AllBelow k vs × AllBelow k ws
+pub all-split : (k : ℕ) (vs ws : List Node) → AllBelow k (vs ++ ws) → AllBelow k vs × AllBelow k ws
 all-split k [] ws b = (tt, b)
 all-split k (v ∷ vs) ws b = let r = all-split k vs ws (b .1) in ((b .0, r .0), r .1)
 
-all-join : (k : ℕ) (vs ws : List Node) → AllBelow k vs → AllBelow k ws → AllBelow k (vs ++ ws)
+pub all-join : (k : ℕ) (vs ws : List Node) → AllBelow k vs → AllBelow k ws → AllBelow k (vs ++ ws)
 all-join k [] ws b c = c
 all-join k (v ∷ vs) ws b c = (b .0, all-join k vs ws (b .1) c)
 

@@ -30,3 +30,4 @@ pub mod LowestWrong
 pub mod BlockTests
 pub mod Faults
 pub mod NoFault
+pub mod Tables

@@ -185,6 +185,19 @@ onesBefore-mono (I ∷ bs) (suc z) = omega (arith, onesBefore-mono bs (suc z))
 onesBefore-mono (O ∷ bs) zero = omega arith
 onesBefore-mono (O ∷ bs) (suc z) = onesBefore-mono bs z
 
+pub onesBefore-upto : (bs : List Bit) (y z : ℕ) → y ≤ z → onesBefore bs y ≤ onesBefore bs z
+onesBefore-upto bs y z h = subst (λ k. onesBefore bs y ≤ onesBefore bs k) (let e : y + (z - y) ≡ z = omega arith in e) (go (z - y))
+  where
+    go : (m : ℕ) → onesBefore bs y ≤ onesBefore bs (y + m)
+    go zero = omega (arith, ap (onesBefore bs) (let e : y ≡ y + 0 = omega arith in e))
+    go (suc m) = omega (arith, go m, onesBefore-mono bs (y + m), ap (onesBefore bs) (let e : suc (y + m) ≡ y + suc m = omega arith in e))
+
+pub onesBefore-all : (bs : List Bit) (z : ℕ) → onesBefore bs z ≤ ones bs
+onesBefore-all [] z = omega arith
+onesBefore-all (b ∷ bs) zero = omega arith
+onesBefore-all (I ∷ bs) (suc z) = omega (arith, onesBefore-all bs (suc z))
+onesBefore-all (O ∷ bs) (suc z) = onesBefore-all bs z
+
 -- zero w + 1, if it is not the last, is followed by a zero exactly if no one is between it and
 -- the next
 pub leaf-mark : (bs : List Bit) (w : ℕ) → suc w < zeros bs

@@ -8,23 +8,15 @@ use native.Mathlib.Decide.{decLt}
 use lib.IntN.{ℤ, pos, negsuc}
 use lib.ListN.{length}
 use Rattle.meaning.specs.Trees.{Tree, degreeOf, nodes, degrees}
-use Rattle.meaning.specs.Strings.{Bit, O, I, unary, lbs, ones}
+use Rattle.meaning.specs.Strings.{unary, lbs, ones}
 use Rattle.meaning.specs.Parents.{parents, entry}
 use Rattle.meaning.specs.Questions.{Ask, parent, firstChild, lastChild, nextSibling, previousSibling, degree, rank, child, leaf, sibling}
 use Rattle.meaning.specs.Questions.{isNone, childrenOf, placeOf, rankOf, childAt, siblingAt, answer}
-use Rattle.theory.specs.Rank.{onesBefore}
 use Rattle.theory.specs.Walks.{root, nodeAt, Number, At, ChildAt, SiblingAt, Above, Ranks, Gives}
-use Rattle.theory.proofs.Navigate.{onesBefore-zero}
+use Rattle.theory.proofs.Navigate.{onesBefore-zero, onesBefore-all}
 use Rattle.theory.proofs.Answers.{root-rank, other-rank, lo, child-there, child-none, right-there, right-none, left-none}
 use Rattle.theory.proofs.Scan.{nodes-ones}
 use Rattle.theory.proofs.Addresses.{child-address, first-node, lo-step, degree-at, child-node, is-child, address-step, number-unique, number-of, parent-number}
-
-onesBefore-all : (bs : List Bit) (z : ℕ) → onesBefore bs z ≤ ones bs
-onesBefore-all [] z = omega arith
-onesBefore-all (I ∷ bs) zero = omega arith
-onesBefore-all (O ∷ bs) zero = omega arith
-onesBefore-all (I ∷ bs) (suc z) = omega (arith, onesBefore-all bs (suc z))
-onesBefore-all (O ∷ bs) (suc z) = onesBefore-all bs z
 
 module _ (t : Tree) where
   -- ---- children

@@ -11,7 +11,7 @@ use lib.ListN.{length, take, drop, replicate, length-map, take-append-drop}
 use lib.Seq.{take-take}
 use Rattle.meaning.specs.Trees.{Tree, degreeOf, degrees, levelOrder, nodes}
 use Rattle.meaning.specs.Strings.{Bit, O, I, unary, lbs, strings, ones}
-use Rattle.meaning.specs.Scan.{Kind, one, many, Small, AsMany, Good, Begins, Place, State, closed, begun, inside, begin, step, atEnd, refusal, place}
+use Rattle.meaning.specs.Scan.{Kind, one, many, Small, AsMany, Good, Begins, FirstNone, Place, State, closed, begun, inside, begin, step, atEnd, refusal, place}
 use Rattle.theory.proofs.Build.{Done, degrees-done}
 use Rattle.theory.proofs.Bits.{Over, string-of-tree, tree-of-string}
 
@@ -323,14 +323,18 @@ place-is kind bs n = go (verdict kind bs (closed 0) 0)
         }
 
 -- one place only
-not-below : (kind : Kind) (bs : List Bit) (p q : ℕ) → Place kind bs p → Place kind bs q → p < q → ⊥
-not-below kind bs p q a b l = a .here (omega (arith, b .inside)) (b .before p l)
+module _ {A : Type 0} (Begins : List A → Type 0) (xs : List A) where
+  not-below : (p q : ℕ) → FirstNone Begins xs p → FirstNone Begins xs q → p < q → ⊥
+  not-below p q a b l = a .here (omega (arith, b .inside)) (b .before p l)
+
+  pub first-unique : (p q : ℕ) → FirstNone Begins xs p → FirstNone Begins xs q → p ≡ q
+  first-unique p q a b =
+      let l : p < q → ⊥ = not-below p q a b in
+      let g : q < p → ⊥ = not-below q p b a in
+      omega arith
 
 pub place-unique : (kind : Kind) (bs : List Bit) (p q : ℕ) → Place kind bs p → Place kind bs q → p ≡ q
-place-unique kind bs p q a b =
-    let l : p < q → ⊥ = not-below kind bs p q a b in
-    let g : q < p → ⊥ = not-below kind bs q p b a in
-    omega arith
+place-unique kind bs p q a b = first-unique (Begins kind) bs p q a b
 
 -- ---- T6: bits that agree with a good string in the first j are not refused before the next
 

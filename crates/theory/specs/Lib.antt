@@ -7,3 +7,4 @@ pub mod Walks
 pub mod Layout
 pub mod Faults
 pub mod Stages
+pub mod Tables

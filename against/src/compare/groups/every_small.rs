@@ -27,7 +27,9 @@ pub fn parent_lists(comparison: &mut Comparison, random: &mut Random) -> Result<
             let metres = offered_metres(random, length);
             comparison.compare(Call::ImageWithMetres { parents: parents.clone(), metres, image })?;
             let pack = [&[0b1000_0000], random.bytes(3).as_slice()].concat();
-            comparison.compare(Call::Join { pack, bits: 3, trees: 1, parents })?;
+            comparison.compare(Call::Join { pack, bits: 3, trees: 1, parents: parents.clone() })?;
+            let text = random.bytes(10);
+            comparison.compare(Call::TextOfParents { parents, text })?;
         }
     }
     Ok(())
@@ -91,7 +93,12 @@ fn there_and_back(comparison: &mut Comparison, random: &mut Random, forms: &Form
         comparison.compare(Call::ParentsOfString { bytes, bits, parents: output.clone() })?;
         let image = forms.image.clone();
         comparison.compare(Call::ParentsOfImage { image: image.clone(), parents: output.clone() })?;
-        comparison.compare(Call::MetresOfImage { image, metres: output })?;
+        comparison.compare(Call::MetresOfImage { image, metres: output.clone() })?;
+        comparison.compare(Call::ParentsOfText { text: forms.text(), parents: output })?;
+    }
+    for room in [2 * n - 1, 2 * n, 2 * n + 1] {
+        let text = random.bytes(room);
+        comparison.compare(Call::TextOfParents { parents: parents(), text })?;
     }
     let needed = forms.bytes.len();
     for room in [needed - 1, needed, needed + 1] {

@@ -10,6 +10,7 @@ use crate::model::bits::bytes_of_bits;
 use crate::model::images::{image_of_tree, m_of, WITH_METRES};
 use crate::model::listing::listing_from;
 use crate::model::strings::string_of_tree;
+use crate::model::texts::{CLOSES, OPENS};
 use crate::model::trees::Tree;
 
 /// One tree as parent list, string, bytes of the string, and image: with metres it is of version 2, else of version 1.
@@ -67,11 +68,34 @@ impl Forms {
         }
     }
 
+    /// Its text, however many levels it has.
+    pub fn text(&self) -> Vec<u8> {
+        brackets_of(&self.tree)
+    }
+
     /// How many numbers a listing takes; where it is too deep, as many as all nodes would.
     pub fn numbers_listed(&self, node: usize) -> usize {
         let nodes = listing_from(&self.tree, node).map_or(self.node_count(), |listing| listing.len());
         2 * nodes
     }
+}
+
+/// The brackets of a tree of any number of levels.
+pub fn brackets_of(tree: &Tree) -> Vec<u8> {
+    let mut text = Vec::new();
+    // a node to open, or none where one is closed
+    let mut to_come = vec![Some(1)];
+    while let Some(step) = to_come.pop() {
+        match step {
+            Some(node) => {
+                text.push(OPENS);
+                to_come.push(None);
+                to_come.extend(tree.children(node).iter().rev().map(|&child| Some(child)));
+            }
+            None => text.push(CLOSES),
+        }
+    }
+    text
 }
 
 /// A parent list of `n` numbers and any shape.
@@ -184,6 +208,14 @@ pub fn every_call(comparison: &mut Comparison, random: &mut Random, forms: &Form
     let room = room_near(random, forms.numbers_listed(node));
     let pairs = random.words(room);
     comparison.compare(Call::List { image: forms.image.clone(), node: number(node), pairs })?;
+
+    let room = room_near(random, n);
+    let parents = random.words(room);
+    comparison.compare(Call::ParentsOfText { text: forms.text(), parents })?;
+
+    let room = room_near(random, 2 * n);
+    let text = random.bytes(room);
+    comparison.compare(Call::TextOfParents { parents: forms.parents.clone(), text })?;
     Ok(())
 }
 

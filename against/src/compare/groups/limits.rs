@@ -46,7 +46,9 @@ pub fn trees_around_the_limits(comparison: &mut Comparison, random: &mut Random)
         comparison.compare(Call::ImageOfParents { parents: parents.clone(), image: image.clone() })?;
         comparison.compare(Call::ImageWithMetres { parents: parents.clone(), metres, image })?;
         let pack = random.bytes(20_000);
-        comparison.compare(Call::Join { pack, bits: 0, trees: 0, parents })?;
+        comparison.compare(Call::Join { pack, bits: 0, trees: 0, parents: parents.clone() })?;
+        let text = random.bytes(2 * parents.len());
+        comparison.compare(Call::TextOfParents { parents, text })?;
     }
     Ok(())
 }

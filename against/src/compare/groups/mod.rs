@@ -11,6 +11,7 @@ mod pages_and_rooms;
 mod parent_lists;
 mod questions_and_listings;
 mod strings_and_packs;
+mod texts;
 
 use super::comparison::{Comparison, Enough};
 use super::random::Random;
@@ -38,6 +39,7 @@ pub const GROUPS: &[Group] = &[
     fixed("the twelve cases", the_twelve_cases),
     fixed("T with metres", t_with_metres),
     fixed("the root of T", the_root_of_t),
+    fixed("texts by hand", texts_by_hand),
     fixed("unreadable pages, every call", pages_and_rooms::every_call_at_pages),
     fixed("empty lists", pages_and_rooms::empty_lists),
     fixed("every room up to two too many", pages_and_rooms::every_room),
@@ -45,6 +47,8 @@ pub const GROUPS: &[Group] = &[
     fixed("every string up to 11 bits", every_small::strings),
     fixed("every tree up to 7 nodes", every_small::trees),
     fixed("every R1 and R0 up to 6 nodes", every_small::partitioned_strings),
+    fixed("every text up to 8 bytes", texts::every_text),
+    fixed("every byte in every place of a text", texts::every_byte),
     fixed("lists of metres", metres::lists_of_metres),
     fixed("the root of trees of every size", questions_and_listings::the_root),
     drawn("trees of every shape", limits::trees_of_every_shape),
@@ -55,6 +59,9 @@ pub const GROUPS: &[Group] = &[
     drawn("packs", strings_and_packs::packs),
     drawn("damaged packs", strings_and_packs::damaged_packs),
     drawn("packs around the limits", strings_and_packs::packs_around_the_limits),
+    drawn("texts of trees", texts::texts_of_trees),
+    drawn("damaged texts", texts::damaged_texts),
+    drawn("texts around 64 levels", texts::texts_around_64_levels),
     drawn("images with flipped bits", image_damage::flipped_bits),
     drawn("images edited, sums right again", image_damage::edits_with_right_sums),
     drawn("images with one fault", image_faults::one_fault),
@@ -64,6 +71,7 @@ pub const GROUPS: &[Group] = &[
     drawn("images cut, lengthened, exchanged", image_damage::moved_blocks),
     drawn("demand 3", demand_three::demand_three),
     drawn("trees around the limits", limits::trees_around_the_limits),
+    drawn("texts around the limits", texts::texts_around_the_limits),
 ];
 
 /// "Twelve checked by hand", with what comes back written down by hand.
@@ -79,6 +87,11 @@ fn t_with_metres(comparison: &mut Comparison, _: &mut Random) -> Result<(), Enou
 /// What is asked about its root, which has no rank.
 fn the_root_of_t(comparison: &mut Comparison, _: &mut Random) -> Result<(), Enough> {
     expected(comparison, twelve_cases::of_the_root())
+}
+
+/// Trees as text, with what comes back written down by hand too.
+fn texts_by_hand(comparison: &mut Comparison, _: &mut Random) -> Result<(), Enough> {
+    expected(comparison, twelve_cases::as_text())
 }
 
 fn expected(comparison: &mut Comparison, cases: Vec<Case>) -> Result<(), Enough> {

@@ -31,8 +31,10 @@ fn calls_on(random: &mut Random, forms: &Forms, spare: isize) -> Vec<Call> {
     let (one_parents, other_parents, metres) = (words(n), words(n), words(n));
     let (starts, sizes, answers) = (words(1), words(1), words(100));
     let pairs = words(forms.numbers_listed(1));
+    let parents_of_text = words(n);
     let mut room = |needed: usize| random.bytes(needed.saturating_add_signed(spare));
     let (string_room, image_room, pack) = (room(bytes().len()), room(image().len()), room(bytes().len()));
+    let text_room = room(2 * n);
     vec![
         Call::StringOfParents { parents: parents(), bytes: string_room },
         Call::ParentsOfString { bytes: bytes(), bits, parents: one_parents },
@@ -44,6 +46,8 @@ fn calls_on(random: &mut Random, forms: &Forms, spare: isize) -> Vec<Call> {
         Call::Split { bytes: bytes(), bits, trees: 1, starts, sizes },
         Call::Join { pack, bits: 0, trees: 0, parents: parents() },
         Call::List { image: image(), node: 1, pairs },
+        Call::ParentsOfText { text: forms.text(), parents: parents_of_text },
+        Call::TextOfParents { parents: parents(), text: text_room },
     ]
 }
 
@@ -134,6 +138,14 @@ fn emptied(mut call: Call, choice: usize) -> Call {
         Call::List { image, pairs, .. } => {
             keep_unless(empty(0), image);
             keep_unless(empty(1), pairs);
+        }
+        Call::ParentsOfText { text, parents } => {
+            keep_unless(empty(0), text);
+            keep_unless(empty(1), parents);
+        }
+        Call::TextOfParents { parents, text } => {
+            keep_unless(empty(0), parents);
+            keep_unless(empty(1), text);
         }
     }
     call

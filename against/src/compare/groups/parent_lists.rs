@@ -6,7 +6,7 @@ use crate::compare::comparison::{Comparison, Enough};
 use crate::compare::random::Random;
 use crate::model::answers::number;
 
-/// Trees with one entry or two changed, offered to all four calls that take a parent list.
+/// Trees with one entry or two changed, offered to all five calls that take a parent list.
 pub fn bad_entries(comparison: &mut Comparison, random: &mut Random) -> Result<(), Enough> {
     for _ in 0..4_000 {
         let n = small_size(random);
@@ -34,7 +34,7 @@ pub fn bad_entries(comparison: &mut Comparison, random: &mut Random) -> Result<(
 }
 
 /// Another number at some entry: its own number and the neighbours of it, entries around, and numbers far away.
-fn change_entry(random: &mut Random, parents: &mut [u32]) {
+pub fn change_entry(random: &mut Random, parents: &mut [u32]) {
     let index = random.below(parents.len());
     let entry = number(index) + 1;
     let (before, own) = (parents[index.saturating_sub(1)], parents[index]);
@@ -56,6 +56,8 @@ fn offer(comparison: &mut Comparison, random: &mut Random, parents: Vec<u32>) ->
     // after one tree, 100, in a buffer that mostly has room
     let room = if random.one_in(8) { 0 } else { string_room };
     let pack = [&[0b1000_0000], random.bytes(room).as_slice()].concat();
-    comparison.compare(Call::Join { pack, bits: 3, trees: 1, parents })?;
+    comparison.compare(Call::Join { pack, bits: 3, trees: 1, parents: parents.clone() })?;
+    let text = random.bytes(2 * parents.len());
+    comparison.compare(Call::TextOfParents { parents, text })?;
     Ok(())
 }

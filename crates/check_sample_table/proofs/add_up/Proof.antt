@@ -2,7 +2,8 @@
 use mathlib.Core.Path.{_≡_, refl}
 use Prim.Native.Nat.{ℕ, _+_, _-_, _%_, _≤_}
 use native.Mathlib.Omega.{arith}
-use Rattle.check_sample_table.proofs.Adding.{Summed, summed-few, summed-more, sum-none}
+use Rattle.theory.proofs.Tables.{sum-none}
+use Rattle.check_sample_table.proofs.Adding.{Summed, summed-few, summed-more}
 use Rattle.check_sample_table.proofs.add_up.Statement.{statement}
 use Rattle.check_sample_table.proofs.add_up.Tie as tie
 

@@ -5,7 +5,7 @@ use native.Mathlib.Omega.{arith}
 use lib.ListN.{length, getD, length-set}
 use Rattle.meaning.specs.Strings.{ones}
 use Rattle.meaning.specs.Bytes.{bitsFrom}
-use Rattle.check_sample_table.proofs.Adding.{filled-more}
+use Rattle.theory.proofs.Tables.{filled-more}
 use Rattle.check_sample_table.proofs.count_words.Statement.{statement}
 use Rattle.check_sample_table.proofs.count_words.Tie as tie
 

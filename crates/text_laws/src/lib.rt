@@ -1,0 +1,1 @@
+// Laws of trees as brackets and as parenthesis text; no code.

@@ -1,0 +1,5 @@
+pub mod Nesting
+pub mod Ends
+pub mod Reading
+pub mod Writing
+pub mod Promises

@@ -1,0 +1,1 @@
+// What the two calls of parenthesis text promise; no code.
