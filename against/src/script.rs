@@ -8,11 +8,12 @@
 use crate::model::answers::{number, Answer, Counts, Refusal};
 use crate::model::calls;
 use crate::model::images::{seal, BLOCK_BYTES, MOST_BLOCKS};
+use crate::model::texts::MOST_TEXT_BYTES;
 use crate::model::trees::MOST_NODES;
 
-/// One node and one block more than a tree and an image may have.
+/// One node and one byte more than a tree and a text may have; an image has fewer bytes.
 const NODES: usize = MOST_NODES + 1;
-const BYTES: usize = (MOST_BLOCKS + 1) * BLOCK_BYTES;
+const BYTES: usize = MOST_TEXT_BYTES + 1;
 /// The longest list that a call can be lent to write numbers to; each of the two of a split.
 const MOST_WORDS: usize = 65_536;
 const MOST_PARTS: usize = 300;

@@ -219,12 +219,19 @@ fn run(text: &[u8], parents: &mut [u32], metres: &mut [u32], bytes: &mut [u8]) {
     }
 }
 
-// There is room for one node and one block more than a tree and an image may have.
+// Bytes in hand: one more than a text may have, and more than an image has. The length of an array
+// that a call gives is known; that of one written out is counted, which a million bytes are too
+// many for.
+fn zeros() -> [u8; 1048577] {
+    [0u8; 1048577]
+}
+
+// There is room for one node more than a tree may have.
 fn main() {
     let mut text = io::large_buffer();
     let mut parents = [0u32; 65536];
     let mut metres = [0u32; 65536];
-    let mut bytes = [0u8; 294400];
+    let mut bytes = zeros();
     let n = io::read_full(0, &mut text);
     run(&text[..n], &mut parents, &mut metres, &mut bytes);
 }

@@ -61,8 +61,7 @@ step s c = cond (isBlank c) s (cond (eqb c 40) (opening s) (cond (eqb c 41) (clo
 -- how a reading ends: with one tree, or at a byte, from 1
 pub data Read : Type 0 where
   whole : Read
-  -- the text cannot be continued after the bytes before this one and with it; the length + 1 where
-  -- it ends too early
+  -- up to this byte the text cannot be continued to a tree; the length + 1 where it ends too early
   broken : (byte : ℕ) → Read
   -- this byte opens a level too many
   deeper : (byte : ℕ) → Read

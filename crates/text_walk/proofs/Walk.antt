@@ -111,7 +111,6 @@ module _ (t : Tree) where
   -- the node that is opened next is the next child of the innermost open node
   pub record Opens (cs : List ℕ) (o : ℕ) (rest : List Bit) : Type 0 where
     pub room : o < 64
-    pub child : cursor cs (suc o) < low t (suc (cursor cs o))
     pub node : cursor cs (suc o) < nodes t
     pub parent : entry (parents t) (suc (cursor cs (suc o))) ≡ cursor cs o
     pub on : Walking t (set cs (suc o) (cursor cs (suc o) + 1)) (suc o) rest
@@ -176,7 +175,6 @@ module _ (t : Tree) where
     pub walk-open : Opens cs o rest
     walk-open = record {
       room = room;
-      child = left;
       node = omega (arith, left, low-most t (suc (x cs o)));
       parent = parent-is (x cs o) (y cs o) (w .among o (omega arith) .0) left;
       on = record {
