@@ -35,6 +35,13 @@ impl Random {
         choices[self.below(choices.len())]
     }
 
+    /// Puts a list into any order, each being as likely.
+    pub fn shuffle<T>(&mut self, list: &mut [T]) {
+        for last in (1..list.len()).rev() {
+            list.swap(last, self.below(last + 1));
+        }
+    }
+
     pub fn word(&mut self) -> u32 {
         self.draw() as u32
     }

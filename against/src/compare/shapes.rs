@@ -74,9 +74,7 @@ fn each_parent(n: usize, mut choose: impl FnMut(usize, usize) -> usize) -> Vec<u
 /// the degrees, and of all turns of such a row exactly one is a tree's.
 fn even_degrees(n: usize, random: &mut Random) -> Vec<usize> {
     let mut row: Vec<bool> = (0..2 * n - 1).map(|index| index < n - 1).collect();
-    for last in (1..row.len()).rev() {
-        row.swap(last, random.below(last + 1));
-    }
+    random.shuffle(&mut row);
     // the right turn begins after the place where zeros are ahead of ones the most, for the first time
     let (mut ahead, mut most, mut turn) = (0i64, 0i64, 0);
     for (index, &one) in row.iter().enumerate() {

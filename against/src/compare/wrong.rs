@@ -5,13 +5,14 @@ use super::layout::{place_of_bit, with_words, word_at, Layout};
 use super::run::{first_difference, DEFAULT_SEED};
 use crate::library::{Library, Returned};
 use crate::model::answers::{number, Answer, Refusal};
+use crate::model::bits::{bits_of_bytes, bytes_of_bits};
 use crate::model::calls;
 use crate::model::images::{
-    candidate, image_of_tree, metres_in, seal, wrong_words, Content, WrongWords, BITS_IN_BLOCK, BLOCK_BYTES,
-    MOST_BLOCKS, PAYLOAD_BYTES, PAYLOAD_WORDS, WITHOUT_METRES, WITH_METRES,
+    candidate, image_of_tree, metres_in, partition, seal, wrong_words, Content, WrongWords, BITS_IN_BLOCK, BLOCK_BYTES,
+    COUNT_BYTES, MOST_BLOCKS, PAYLOAD_BYTES, PAYLOAD_WORDS, SAMPLE_STEP, WITHOUT_METRES, WITH_METRES,
 };
 use crate::model::listing::listing_from;
-use crate::model::strings::MOST_BITS;
+use crate::model::strings::{string_of_tree, MOST_BITS};
 use crate::model::texts::{tree_of_text, Node, BLANKS, CLOSES, MOST_LEVELS, MOST_TEXT_BYTES, OPENS};
 use crate::model::trees::{Tree, MOST_NODES};
 
@@ -115,6 +116,32 @@ pub const WRONG: &[Wrong] = &[
         },
     },
     Wrong {
+        name: "parents-of-string-counts-seven-bits-of-a-byte",
+        what: "plq_parents_of_string takes the last bit of the byte 01001011 for a zero",
+        spoil: |before, after, answer| {
+            if let (0 | 1 | 4, Call::ParentsOfString { bytes, bits, parents }) = (answer.code, before) {
+                if let Some(taken) = taken_for(bytes, *bits, 0b0100_1011, 0b0100_1010) {
+                    let mut parents = parents.clone();
+                    *answer = Answer::of(calls::parents_of_string(&taken, *bits, &mut parents));
+                    *after = Call::ParentsOfString { bytes: bytes.clone(), bits: *bits, parents };
+                }
+            }
+        },
+    },
+    Wrong {
+        name: "parents-of-string-counts-nodes-by-bytes",
+        what: "plq_parents_of_string names the first bit of the byte 00110101 that has a tree's 65,536th one",
+        spoil: |_, after, answer| {
+            if let (4, Call::ParentsOfString { bytes, bits, .. }) = (answer.code, after) {
+                let index = answer.place as usize - 1;
+                let is_too_many = || bits_of_bytes(bytes)[..index].iter().filter(|&&bit| bit).count() == MOST_NODES;
+                if index < *bits && bytes[index / 8] == 0b0011_0101 && is_too_many() {
+                    answer.place = number(index / 8 * 8 + 1);
+                }
+            }
+        },
+    },
+    Wrong {
         name: "image-changes-byte-after",
         what: "plq_image_of_parents clears the byte after the image, where there is one",
         spoil: |_, after, answer| {
@@ -210,6 +237,20 @@ pub const WRONG: &[Wrong] = &[
                 image[first * BLOCK_BYTES..].fill(0);
                 for (block, metres) in (first..).zip(metres.chunks(PAYLOAD_WORDS + 1)) {
                     image[block * BLOCK_BYTES..][..4 * metres.len()].copy_from_slice(metres.as_flattened());
+                }
+            });
+        },
+    },
+    Wrong {
+        name: "image-with-metres-samples-last-one-of-a-byte",
+        what: "plq_image_with_metres takes the last one of the byte 10101001 of R0 for any that has a sample",
+        spoil: |_, after, answer| {
+            seal_otherwise(after, answer, |image, layout| {
+                let r0 = r0_of(&candidate(image).expect("just made"));
+                for index in 0..layout.samples {
+                    let sample = word_at(image, layout.r0_samples.start, index);
+                    let place = u32::from_le_bytes(*sample);
+                    *sample = find_otherwise(&r0, place, 0b1010_1001, |ones, _| ones[ones.len() - 1]).to_le_bytes();
                 }
             });
         },
@@ -568,6 +609,20 @@ pub const WRONG: &[Wrong] = &[
         },
     },
     Wrong {
+        name: "check-takes-two-bytes-for-in-step",
+        what: "plq_check_image finds no fault with 00010110 in R1 at the place of 00001110 in R0",
+        spoil: |_, after, answer| {
+            if let (13, Call::CheckImage { image }) = (answer.code, after) {
+                let first_bytes =
+                    |block: usize| &image[block * BLOCK_BYTES + COUNT_BYTES..][..PAYLOAD_BYTES - COUNT_BYTES];
+                let mut bytes = first_bytes(1).iter().zip(first_bytes(first_block_of_r0(image)));
+                if bytes.any(|pair| pair == (&0b0001_0110, &0b0000_1110)) {
+                    *answer = Answer { code: 0, place: 0, first: header_word(image, 1), second: header_word(image, 2) };
+                }
+            }
+        },
+    },
+    Wrong {
         name: "check-looks-at-counts-first",
         what: "plq_check_image looks at the counts of the first blocks of R1 and R0 before the strings",
         spoil: |_, after, answer| {
@@ -723,6 +778,55 @@ pub const WRONG: &[Wrong] = &[
         },
     },
     Wrong {
+        name: "ask-counts-ones-of-a-byte-from-the-last",
+        what: "plq_ask answers kind 1 by the ones of the byte 10110110 of R0 counted from the last to the first",
+        spoil: |_, after, answer| {
+            let otherwise: Otherwise = |ones, which| ones[ones.len() - 1 - which];
+            select_otherwise(after, answer, 1, r0_of, 0b1011_0110, otherwise);
+        },
+    },
+    Wrong {
+        name: "ask-removes-last-ones-of-a-byte",
+        what: "plq_ask answers kind 3 by the first one of the byte 01101101 of R1 for any of its ones",
+        spoil: |_, after, answer| {
+            let otherwise: Otherwise = |ones, _| ones[0];
+            select_otherwise(after, answer, 3, r1_of, 0b0110_1101, otherwise);
+        },
+    },
+    Wrong {
+        name: "ask-counts-places-of-a-byte-from-zero",
+        what: "plq_ask answers kind 1 by the places of the byte 01011010 of R0 counted from 0",
+        spoil: |_, after, answer| {
+            let otherwise: Otherwise = |ones, which| ones[which] - 1;
+            select_otherwise(after, answer, 1, r0_of, 0b0101_1010, otherwise);
+        },
+    },
+    Wrong {
+        name: "ask-removes-one-too-many-of-a-byte",
+        what: "plq_ask answers kind 3 by the next one of the byte 11000111 of R1, where it has one more",
+        spoil: |_, after, answer| {
+            let otherwise: Otherwise = |ones, which| ones[(which + 1).min(ones.len() - 1)];
+            select_otherwise(after, answer, 3, r1_of, 0b1100_0111, otherwise);
+        },
+    },
+    Wrong {
+        name: "ask-counts-seven-bits-of-a-byte",
+        what: "plq_ask answers kind 1 by the next one of R0 where a byte 10010011 was passed since the last sample",
+        spoil: |_, after, answer| {
+            answer_otherwise(after, answer, |tree, question, answer| {
+                if question[0] == 1 && *answer > 0 {
+                    let r0 = r0_of(tree);
+                    let ones: Vec<usize> = (0..r0.len()).filter(|&index| r0[index]).collect();
+                    let which = ones.iter().position(|&index| index + 1 == *answer as usize).expect("has a child");
+                    let passed = ones[which / SAMPLE_STEP * SAMPLE_STEP] / 8..ones[which] / 8;
+                    if bytes_of_bits(&r0)[passed].contains(&0b1001_0011) {
+                        *answer = number(ones[which + 1] + 1);
+                    }
+                }
+            });
+        },
+    },
+    Wrong {
         name: "ask-refuses-least-argument",
         what: "plq_ask does not allow the argument -2^31",
         spoil: |before, after, answer| {
@@ -828,6 +932,22 @@ pub const WRONG: &[Wrong] = &[
         },
     },
     Wrong {
+        name: "split-counts-one-more-pending",
+        what: "plq_split counts a pending node too many before the byte 00101100",
+        spoil: |before, after, answer| {
+            split_otherwise(before, after, answer, |pending, byte| pending + usize::from(byte == 0b0010_1100));
+        },
+    },
+    Wrong {
+        name: "split-passes-end-in-a-byte",
+        what: "plq_split sees no end of a tree in the byte 01000000 where six nodes are pending before it",
+        spoil: |before, after, answer| {
+            split_otherwise(before, after, answer, |pending, byte| {
+                pending + usize::from((pending, byte) == (6, 0b0100_0000))
+            });
+        },
+    },
+    Wrong {
         name: "split-changes-its-input",
         what: "plq_split sets a bit of the string that it reads",
         spoil: |_, after, _| {
@@ -864,6 +984,19 @@ pub const WRONG: &[Wrong] = &[
                 let (last, used) = (answer.first as usize / 8, answer.first % 8);
                 if used > 0 {
                     pack[last] |= old[last] & (0xFF >> used);
+                }
+            }
+        },
+    },
+    Wrong {
+        name: "join-skips-first-bit-of-a-byte",
+        what: "plq_join takes the first bit of the byte 11100010 of the pack for a zero",
+        spoil: |before, after, answer| {
+            if let (0 | 1 | 3 | 4 | 10, Call::Join { pack, bits, trees, parents }) = (answer.code, before) {
+                let Some(mut taken) = taken_for(pack, *bits, 0b1110_0010, 0b0110_0010) else { return };
+                if let Err(refusal) = calls::join(&mut taken, *bits, *trees, parents) {
+                    *after = before.clone();
+                    *answer = Answer::of(Err(refusal));
                 }
             }
         },
@@ -1258,6 +1391,90 @@ fn ask_otherwise(before: &Call, after: &mut Call, answer: &mut Answer, change: f
     others.chunks_mut(3).for_each(change);
     *answer = Answer::of(calls::ask(image, &others, &mut answers));
     *after = Call::Ask { image: image.clone(), questions: questions.clone(), answers };
+}
+
+/// R1 of a tree.
+fn r1_of(tree: &Tree) -> Vec<bool> {
+    partition(&string_of_tree(tree)).0
+}
+
+/// R0 of a tree.
+fn r0_of(tree: &Tree) -> Vec<bool> {
+    partition(&string_of_tree(tree)).1
+}
+
+/// Another place in a byte: of all its ones, from 1 in it, and which of them it is, from 0.
+type Otherwise = fn(&[u32], usize) -> u32;
+
+/// Another place for a one, from 1 in the string, where it is in this byte, whole.
+fn find_otherwise(string: &[bool], place: u32, byte: u8, otherwise: Otherwise) -> u32 {
+    let index = place as usize - 1;
+    let begin = index / 8 * 8;
+    match string.get(begin..begin + 8) {
+        Some(bits) if bytes_of_bits(bits) == [byte] => {
+            let ones: Vec<u32> = (1..).zip(bits).filter(|(_, &bit)| bit).map(|(place, _)| place).collect();
+            let which = bits[..index - begin].iter().filter(|&&bit| bit).count();
+            number(begin) + otherwise(&ones, which)
+        }
+        _ => place,
+    }
+}
+
+/// Answers to a kind, which are places of ones in a string of the tree, with other places in this byte.
+fn select_otherwise(
+    call: &mut Call,
+    answer: &Answer,
+    kind: i32,
+    string_of: fn(&Tree) -> Vec<bool>,
+    byte: u8,
+    otherwise: Otherwise,
+) {
+    let (0, Call::Ask { image, questions, answers }) = (answer.code, call) else { return };
+    let string = string_of(&candidate(image).expect("accepted"));
+    let asked = questions.chunks(3).zip(answers).filter(|(question, place)| question[0] == kind && **place > 0);
+    asked.for_each(|(_, place)| *place = find_otherwise(&string, *place, byte, otherwise));
+}
+
+/// The bytes of so many bits with another one wherever they have this one, whole, if they have it anywhere.
+fn taken_for(bytes: &[u8], bits: usize, byte: u8, other: u8) -> Option<Vec<u8>> {
+    let mut taken = bytes.to_vec();
+    taken[..bits / 8].iter_mut().filter(|taken| **taken == byte).for_each(|taken| *taken = other);
+    (taken != bytes).then_some(taken)
+}
+
+/// A splitting that miscounts: `recount` gets the number of pending nodes before a whole byte of a tree, and the byte.
+fn split_otherwise(before: &Call, after: &mut Call, answer: &mut Answer, recount: fn(usize, u8) -> usize) {
+    let (0 | 1 | 4 | 10, Call::Split { bytes, bits, trees, .. }) = (answer.code, before) else { return };
+    let refusal = match count_trees(bytes, *bits, recount) {
+        Err(place) => refused(4, place),
+        Ok(found) if found != *trees => refused(10, number(found)),
+        Ok(_) => return,
+    };
+    *after = before.clone();
+    *answer = refusal;
+}
+
+/// The number of trees that are found so, or the place of the bit that refuses.
+fn count_trees(bytes: &[u8], bits: usize, recount: fn(usize, u8) -> usize) -> Result<usize, u32> {
+    let (mut trees, mut begin, mut nodes, mut pending) = (0, 0, 0, 0);
+    for (index, &bit) in bits_of_bytes(bytes)[..bits].iter().enumerate() {
+        if pending == 0 {
+            (begin, nodes, pending) = (index, 0, 1);
+        } else if index % 8 == 0 && index + 8 <= bits {
+            pending = recount(pending, bytes[index / 8]);
+        }
+        nodes += usize::from(bit);
+        // the super-root has one child, and a tree no node after the 65,535th
+        if index - begin < 2 && bit != (index == begin) || nodes > MOST_NODES {
+            return Err(number(index) + 1);
+        }
+        pending = if bit { pending + 1 } else { pending - 1 };
+        trees += usize::from(pending == 0);
+    }
+    if pending > 0 {
+        return Err(number(bits) + 1);
+    }
+    Ok(trees)
 }
 
 /// A text that is not too long, read by other rules: `read` gets it and gives the tree, or refuses.

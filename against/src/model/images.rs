@@ -239,7 +239,12 @@ pub fn candidate(image: &[u8]) -> Option<Tree> {
     let r0_begin = r1_begin + n.div_ceil(BITS_IN_BLOCK);
     let r1 = string_in_blocks(image, r1_begin, n)?;
     let r0 = string_in_blocks(image, r0_begin, n + 1)?;
-    tree_of_string(&unite(&r1, &r0)?).ok()
+    tree_of_strings(&r1, &r0)
+}
+
+/// The tree that has these two partitioned strings, if there is one.
+pub fn tree_of_strings(r1: &[bool], r0: &[bool]) -> Option<Tree> {
+    tree_of_string(&unite(r1, r0)?).ok()
 }
 
 /// Word `index` of the payload of a block.

@@ -10,11 +10,11 @@ abbrev pub both : Bool → Bool → Bool
 both true b = b
 both false b = false
 
-both-left : (a b : Bool) → T (both a b) → T a
+pub both-left : (a b : Bool) → T (both a b) → T a
 both-left true b t = tt
 both-left false b t = t
 
-both-right : (a b : Bool) → T (both a b) → T b
+pub both-right : (a b : Bool) → T (both a b) → T b
 both-right true b t = t
 both-right false b t = absurd t
 

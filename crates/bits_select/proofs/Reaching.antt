@@ -8,27 +8,26 @@ use lib.ListN.{length, getD}
 use Rattle.meaning.specs.Strings.{Bit, O, I, ones}
 use Rattle.meaning.specs.Bytes.{bitsFrom}
 use Rattle.theory.specs.Rank.{position}
-use Rattle.theory.proofs.Forms.{position-split}
+use Rattle.theory.proofs.Forms.{position-front, position-split}
 use Rattle.theory.proofs.Odd.{ones-append}
 use Rattle.theory.proofs.Packing.{bits-length, bits-cut, bits-of-byte}
 use Rattle.bits_byte.specs.Byte.{byteBits}
-use Rattle.bits_select_byte.proofs.Placing.{position-front}
 use Rattle.bits_count.proofs.Runs.{ones-cut}
 
 -- ---- two lists, one after the other
 
-front : (a b : List Bit) (k : ℕ) → 1 ≤ k → k ≤ ones a → position (a ++ b) k ≡ position a k
+pub front : (a b : List Bit) (k : ℕ) → 1 ≤ k → k ≤ ones a → position (a ++ b) k ≡ position a k
 front a b zero h g = absurd (omega arith)
 front a b (suc k) h g = position-front a b k (omega arith)
 
-later : (a b : List Bit) (k : ℕ) → ones a < k → position (a ++ b) k ≡ length a + position b (k - ones a)
+pub later : (a b : List Bit) (k : ℕ) → ones a < k → position (a ++ b) k ≡ length a + position b (k - ones a)
 later a b k h =
     let j = k - ones a - 1 in
     ap (position (a ++ b)) (let e : k ≡ suc (ones a + j) = omega arith in e)
     ∙ position-split a b j
     ∙ ap (λ n. length a + position b n) (let e : suc j ≡ k - ones a = omega arith in e)
 
-position-le : (bs : List Bit) (k : ℕ) → position bs k ≤ length bs
+pub position-le : (bs : List Bit) (k : ℕ) → position bs k ≤ length bs
 position-le [] k = omega arith
 position-le (b ∷ bs) zero = omega arith
 position-le (O ∷ bs) (suc k) = omega (arith, position-le bs (suc k))

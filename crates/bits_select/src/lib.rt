@@ -1,4 +1,4 @@
-// The place of a one in bytes: by words of eight bytes, by halves of a word, and then in its byte.
+// The place of a one in bytes: by words of eight bytes, and then in its byte of a word.
 ghost use mathlib.Core.Path.{_≡_};
 ghost use Prim.Native.Nat.{_+_, _-_, _*_, _≤_};
 ghost use lib.ListN.{length};
@@ -6,52 +6,37 @@ ghost use Rattle.theory.specs.Bounds.{mostBlock};
 ghost use Rattle.meaning.specs.Strings.{ones};
 ghost use Rattle.meaning.specs.Bytes.{bitsFrom};
 ghost use Rattle.theory.specs.Rank.{position};
-use bits_byte::ones_in_byte;
+ghost use Rattle.bits_lanes.specs.Lanes.{wordBits};
+use bits_lanes::count_lanes;
 use bits_select_byte::select_in_byte;
 use bits_word::ones_in_word;
+use bits_word::stored_word;
 
-// How many bits of the two bytes from `at` on are one.
-fn ones_in_two(b: &[u8], at: usize) -> u32
-    requires { ⌜ at + 2 ≤ length (now b) ⌝ }
-    ensures { λ r. ⌜ r ≡ ones (bitsFrom (now (b .entry)) (8 * at) 16) ⌝ }
+// The place, from 1, of one number k of the bytes of a word: it is in the first byte whose ones,
+// with those of all earlier bytes, are k or more. All eight sums are compared at once: 128 and a
+// sum, less k, has the digit of 128 exactly if the sum is not less than k.
+fn place_in_bytes(word: u64, k: u32) -> u32
+    requires { ⌜ 1 ≤ k ⌝ }
+    requires { ⌜ k ≤ ones (wordBits word 8) ⌝ }
+    ensures { λ r. ⌜ r ≡ position (wordBits word 8) k ⌝ }
 {
-    ones_in_byte(b[at]) + ones_in_byte(b[at + 1])
+    let ones = count_lanes(word);
+    let sums = ones.here + ones.earlier + 0x8080808080808080;
+    let enough = (sums - (k as u64) * 0x0101010101010101) & 0x8080808080808080;
+    let byte = u64::trailing_zeros(enough) / 8;
+    let need = k - ((ones.earlier >> (8 * byte)) & 0xFF) as u32;
+    let x = ((word >> (8 * byte)) & 0xFF) as u8;
+    8 * byte + select_in_byte(x, need)
 }
 
-// How many bits of the four bytes from `at` on are one.
-fn ones_in_four(b: &[u8], at: usize) -> u32
-    requires { ⌜ at + 4 ≤ length (now b) ⌝ }
-    ensures { λ r. ⌜ r ≡ ones (bitsFrom (now (b .entry)) (8 * at) 32) ⌝ }
-{
-    ones_in_two(b, at) + ones_in_two(b, at + 2)
-}
-
-// The place, from 1, of one number k of the eight bytes from `at` on: in the half that has it,
-// three times without a branch, and then in its byte.
+// The place, from 1, of one number k of the eight bytes from `at` on.
 fn place_in_word(b: &[u8], at: usize, k: u32) -> usize
     requires { ⌜ 1 ≤ k ⌝ }
     requires { ⌜ at + 8 ≤ length (now b) ⌝ }
     requires { ⌜ k ≤ ones (bitsFrom (now b) (8 * at) 64) ⌝ }
     ensures { λ r. ⌜ r ≡ position (bitsFrom (now (b .entry)) (8 * at) 64) k ⌝ }
 {
-    let mut i = at;
-    let mut need = k;
-    let four = ones_in_four(b, i);
-    if four < need {
-        need -= four;
-        i += 4;
-    }
-    let two = ones_in_two(b, i);
-    if two < need {
-        need -= two;
-        i += 2;
-    }
-    let one = ones_in_byte(b[i]);
-    if one < need {
-        need -= one;
-        i += 1;
-    }
-    8 * (i - at) + select_in_byte(b[i], need) as usize
+    place_in_bytes(stored_word(b, at), k) as usize
 }
 
 // The place, from 1, of one number k of the bits from byte `at` on. It is before the last seven

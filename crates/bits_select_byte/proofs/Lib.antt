@@ -1,1 +1,1 @@
-pub mod Placing
+pub mod Removing

@@ -7,7 +7,6 @@ pub mod Packs
 pub mod Blocks
 pub mod Image
 pub mod Faults
-pub mod Places
 pub mod Questions
 pub mod Listing
 pub mod Brackets

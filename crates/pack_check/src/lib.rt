@@ -9,7 +9,6 @@ ghost use Rattle.meaning.specs.Answers.{firstHolding};
 ghost use Rattle.meaning.specs.Tests.{packRows};
 ghost use Rattle.meaning.specs.declared.Verdict.the-variants.{Passed};
 ghost use Rattle.pack_check.specs.Scanned.{placeIn, treesIn};
-ghost use Rattle.pack_scan.specs.Found.{found, foundOf};
 use meaning::LEFTOVER_SET;
 use meaning::NOT_STRING;
 use meaning::OTHER_TREES;
@@ -17,22 +16,8 @@ use meaning::Verdict;
 use pack_scan::Pack;
 use pack_scan::scan_trees;
 use string_read::leftover_set;
-use string_skip::table_of_falls;
 use table_answers::row;
 use table_answers::upper;
-
-// Scans a pack with one copy of the table of falls for all its trees, and notes the first bit and
-// the node count of each tree for which the lists have an entry.
-pub fn scan_pack(b: &[u8], n: usize, firsts: &mut [u32], counts: &mut [u32]) -> Pack
-    requires { ⌜ n ≤ 8 * length (now b) ⌝ }
-    requires { ⌜ n ≤ 131071 ⌝ }
-    ensures { λ r. ⌜ foundOf r ≡ found (bitsFrom (now (b .entry)) 0 n) ⌝ }
-    ensures { λ _. ⌜ now (firsts .exit) ≡ sets (now (firsts .entry)) 0 (starts (bitsFrom (now (b .entry)) 0 n)) ⌝ }
-    ensures { λ _. ⌜ now (counts .exit) ≡ sets (now (counts .entry)) 0 (sizes (bitsFrom (now (b .entry)) 0 n)) ⌝ }
-{
-    let falls = table_of_falls();
-    scan_trees(b, n, &falls, firsts, counts)
-}
 
 // The bit at which a pack is refused: 0 if it is not.
 fn place_in(pack: Pack) -> u32
@@ -72,7 +57,7 @@ pub fn check_and_note(
     ensures { λ r. ⌜ (r ≡ Passed → now (counts .exit) ≡ sets (now (counts .entry)) 0 (sizes (bitsFrom (now (b .entry)) 0 n))) ⌝ }
 {
     let leftover = row(leftover_set(b, n), LEFTOVER_SET, 0);
-    let pack = scan_pack(b, n, firsts, counts);
+    let pack = scan_trees(b, n, firsts, counts);
     let place = place_in(pack);
     let string = row(place != 0, NOT_STRING, place);
     let found = trees_in(pack);

@@ -6,10 +6,9 @@ ghost use lib.Seq.{sets};
 ghost use Rattle.meaning.specs.Answers.{written};
 ghost use Rattle.meaning.specs.Bytes.{bitsFrom};
 ghost use Rattle.meaning.specs.Packs.{sizes, starts};
-ghost use Rattle.string_skip.specs.Falls.{Falls};
 ghost use Rattle.pack_scan.specs.Found.{found, foundOf};
 use string_end::TreeEnd;
-use string_end::tree_end_by;
+use string_end::tree_end;
 
 // Stores entry k, where the list has one.
 fn note(list: &mut [u32], k: usize, x: u32)
@@ -39,18 +38,11 @@ pub enum Pack {
     Refused(u32),
 }
 
-// Scans a pack by the table of falls, and notes the first bit and the node count of each tree for
-// which the lists have an entry.
-pub fn scan_trees(
-    b: &[u8],
-    n: usize,
-    falls: &[[u8; 16]; 16],
-    firsts: &mut [u32],
-    counts: &mut [u32],
-) -> Pack
+// Scans a pack, and notes the first bit and the node count of each tree for which the lists have an
+// entry.
+pub fn scan_trees(b: &[u8], n: usize, firsts: &mut [u32], counts: &mut [u32]) -> Pack
     requires { ⌜ n ≤ 8 * length (now b) ⌝ }
     requires { ⌜ n ≤ 131071 ⌝ }
-    requires { ⌜ Falls (now falls) ⌝ }
     ensures { λ r. ⌜ foundOf r ≡ found (bitsFrom (now (b .entry)) 0 n) ⌝ }
     ensures { λ _. ⌜ now (firsts .exit) ≡ sets (now (firsts .entry)) 0 (starts (bitsFrom (now (b .entry)) 0 n)) ⌝ }
     ensures { λ _. ⌜ now (counts .exit) ≡ sets (now (counts .entry)) 0 (sizes (bitsFrom (now (b .entry)) 0 n)) ⌝ }
@@ -58,7 +50,7 @@ pub fn scan_trees(
     let mut trees: usize = 0;
     let mut at: usize = 0;
     while at < n {
-        let end = tree_end_by(b, n, at, falls);
+        let end = tree_end(b, n, at);
         match end {
             TreeEnd::Refused(place) => {
                 return Pack::Refused(place as u32);

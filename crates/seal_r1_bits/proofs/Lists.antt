@@ -11,9 +11,8 @@ use lib.Seq.{getD-append-add}
 use Rattle.meaning.specs.Strings.{Bit, O, I, ones, R1, R0, stringFrom, stringOf}
 use Rattle.meaning.specs.Parents.{IsParents}
 use Rattle.theory.specs.Rank.{position}
-use Rattle.theory.proofs.Forms.{position-split}
+use Rattle.theory.proofs.Forms.{position-front, position-split}
 use Rattle.theory.proofs.Navigate.{position-zero}
-use Rattle.bits_select_byte.proofs.Placing.{position-front}
 use Rattle.theory.proofs.Runs.{ends, ends1, ends0, R1-bits, R0-bits}
 use Rattle.parents_check.proofs.Rising.{Rising, parents-rising}
 use Rattle.seal_r1_bits.specs.Listed.{nextOf, markOf, gapOf, endsOf, gapsOf}

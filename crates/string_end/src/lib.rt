@@ -4,12 +4,9 @@ ghost use Prim.Native.Nat.{_+_, _-_, _*_, _/_, _<_, _≤_};
 ghost use lib.ListN.{length};
 ghost use Rattle.meaning.specs.Bytes.{bitsFrom};
 ghost use Rattle.string_end_laws.specs.Ends.{treeEnd};
-ghost use Rattle.string_skip.specs.Falls.{Falls};
 ghost use Rattle.string_end.specs.Ends.{endOf};
 use string_skip::ScanState;
 use string_skip::skip_bytes;
-use string_skip::skip_words;
-use string_skip::table_of_falls;
 
 // Where the tree that starts after `at` bits ends: the bits read by then and its nodes; or the bit
 // at which it is refused.
@@ -31,15 +28,13 @@ fn end_of_byte(p: usize, n: usize) -> usize
     end
 }
 
-// Where the tree that starts after `at` bits ends, by the table of falls: a caller that reads many
-// trees lends one copy of it to all.
+// Where the tree that starts after `at` bits ends.
 // A loop over bytes and a loop over bits, left by the label at the bit that closes the tree or
 // refuses it.
-pub fn tree_end_by(b: &[u8], n: usize, at: usize, falls: &[[u8; 16]; 16]) -> TreeEnd
+pub fn tree_end(b: &[u8], n: usize, at: usize) -> TreeEnd
     requires { ⌜ at ≤ n ⌝ }
     requires { ⌜ n ≤ 131071 ⌝ }
     requires { ⌜ n ≤ 8 * length (now b) ⌝ }
-    requires { ⌜ Falls (now falls) ⌝ }
     ensures { λ r. ⌜ endOf r ≡ treeEnd (bitsFrom (now (b .entry)) at (n - at)) at ⌝ }
 {
     let mut end = TreeEnd::Refused(n + 1);
@@ -53,7 +48,7 @@ pub fn tree_end_by(b: &[u8], n: usize, at: usize, falls: &[[u8; 16]; 16]) -> Tre
             if at + 2 <= p {
                 // Whole bytes at once, where their bits can neither close the tree nor pass the
                 // limit.
-                let words = skip_words(
+                let skipped = skip_bytes(
                     b,
                     n,
                     ScanState {
@@ -62,12 +57,11 @@ pub fn tree_end_by(b: &[u8], n: usize, at: usize, falls: &[[u8; 16]; 16]) -> Tre
                         room: room,
                     },
                 );
-                let bytes = skip_bytes(b, n, falls, words);
-                if p < 8 * bytes.at {
-                    pending = bytes.pending;
-                    room = bytes.room;
-                    p = 8 * bytes.at;
-                    continue 'tree;
+                pending = skipped.pending;
+                room = skipped.room;
+                p = 8 * skipped.at;
+                if p == n {
+                    break 'tree;
                 }
             }
         }
@@ -100,15 +94,4 @@ pub fn tree_end_by(b: &[u8], n: usize, at: usize, falls: &[[u8; 16]; 16]) -> Tre
         }
     }
     end
-}
-
-// Where the tree that starts after `at` bits ends, with a copy of the table of falls of its own.
-pub fn tree_end(b: &[u8], n: usize, at: usize) -> TreeEnd
-    requires { ⌜ at ≤ n ⌝ }
-    requires { ⌜ n ≤ 131071 ⌝ }
-    requires { ⌜ n ≤ 8 * length (now b) ⌝ }
-    ensures { λ r. ⌜ endOf r ≡ treeEnd (bitsFrom (now (b .entry)) at (n - at)) at ⌝ }
-{
-    let falls = table_of_falls();
-    tree_end_by(b, n, at, &falls)
 }

@@ -1,3 +1,1 @@
-pub mod Falls
-pub mod Table
 pub mod Whole

@@ -1,18 +1,24 @@
 -- Whole bytes inside a tree, read at once: their bits neither close it nor pass its limit.
-use mathlib.Core.Path.{_≡_, refl, sym, ap, ap₂, _∙_}
+use mathlib.Core.Path.{_≡_, refl, sym, ap, ap₂, subst, _∙_}
+use mathlib.Core.Logic.{_⊎_, ⊎-elim}
 use mathlib.Core.List.{List, [], _∷_, _++_}
-use Prim.Native.Nat.{ℕ, zero, suc, _+_, _-_, _*_, _/_, _%_, _≤_, _<_}
+use Prim.Native.Nat.{ℕ, zero, suc, _+_, _-_, _*_, _/_, _%_, _≤_}
 use native.Mathlib.Omega.{arith}
-use lib.ListN.{length, getD}
+use lib.ListN.{length}
 use Rattle.meaning.specs.Strings.{Bit, O, I, ones}
 use Rattle.meaning.specs.Bytes.{bitsFrom}
-use Rattle.theory.proofs.Packing.{bits-length, bits-cut, bits-of-byte}
+use Rattle.theory.specs.Layout.{AreBytes}
+use Rattle.theory.proofs.Packing.{bits-length, bits-cut}
 use Rattle.theory.proofs.Payloads.{ones-le}
-use Rattle.bits_byte.specs.Byte.{byteBits}
+use Rattle.bits_word.specs.Little.{little}
+use Rattle.bits_lanes.specs.Lanes.{wordBits}
+use Rattle.bits_lanes.proofs.Stored.{stored-bits, padded-ones}
 use Rattle.string_end_laws.specs.Ends.{insideEnd}
 use Rattle.string_end_laws.proofs.Steps.{endFrom}
-use Rattle.string_skip.specs.Falls.{fall}
-use Rattle.string_skip.proofs.Falls.{fall-le, fall-whole}
+use Rattle.string_pass.specs.Falls.{fall}
+use Rattle.string_pass.specs.Passes.{Passes}
+use Rattle.string_pass.specs.declared.Passed.{Passed}
+use Rattle.string_pass.proofs.Falls.{fall-whole, fewer-fall}
 use Rattle.string_skip.specs.Strides.{ReadOn, Stands, endAt}
 use Rattle.string_skip.specs.declared.ScanState.{ScanState}
 
@@ -61,28 +67,39 @@ module _ (b : List ℕ) (n : ℕ) (f r : ScanState) (h : ReadOn b n f r) (k x : 
             ∙ same-end (bitsFrom b (8 * (r .at + k)) rest) (omega (arith, size)) (omega (arith, size)) (omega arith);
       }
 
--- a word cannot take away more nodes than it has bits
-pub word-fall : (b : List ℕ) (p w : ℕ) → 64 ≤ w → fall (bitsFrom b p 64) ≤ w
-word-fall b p w h = omega (arith, fall-le (bitsFrom b p 64), bits-length b p 64)
+-- ---- what is told of the first bytes of a word, of the bytes that it was made of
 
--- a byte, by its ones and its fall
-module _ (b : List ℕ) (n : ℕ) (f r : ScanState) (h : ReadOn b n f r) {x y : ℕ} (l : r .at < n / 8)
-    (e : x ≡ ones (byteBits (getD b (r .at) 0))) (d : y ≡ fall (byteBits (getD b (r .at) 0))) (g : y ≤ r .pending) where
-  its-bits : byteBits (getD b (r .at) 0) ≡ bitsFrom b (8 * r .at) 8
-  its-bits = sym (ap (λ q. bitsFrom b q 8) (let e : 8 * r .at ≡ 8 * r .at + 0 = omega arith in e) ∙ bits-of-byte b (r .at) 0 8 (omega arith))
+-- k bytes from byte `at` on can be passed over, and x of their bits are ones
+pub record Told (b : List ℕ) (at pending k x : ℕ) : Type 0 where
+  pub opened : x ≡ ones (bitsFrom b (8 * at) (8 * k))
+  pub falls : fall (bitsFrom b (8 * at) (8 * k)) ≤ pending
 
-  pub byte-left : 8 ≤ r .pending + 2 * x
-  byte-left = more-left b n f r h 1 x (omega arith) (e ∙ ap (λ v. ones v) its-bits) (omega (arith, d, ap fall its-bits))
-
-  pub byte-more : x ≤ r .room → ReadOn b n f (record { at = r .at + 1; pending = r .pending + 2 * x - 8; room = r .room - x })
-  byte-more m = more b n f r h 1 x (omega arith) (e ∙ ap (λ v. ones v) its-bits) (omega (arith, d, ap fall its-bits)) m
+module _ (b : List ℕ) (are : AreBytes b) (at m w pending : ℕ) (made : w ≡ little b at m) (p : Passed) (q : Passes w pending p) where
+  -- all that are passed, or those of them that it was made of
+  pub told : (k : ℕ) → k ≤ m → k ≤ p .bytes → (k ≡ p .bytes) ⊎ (k ≡ m) → Told b at pending k (p .opened)
+  told k l g which =
+      let word = little b at m in
+      let same : wordBits w k ≡ bitsFrom b (8 * at) (8 * k) = ap (λ v. wordBits v k) made ∙ stored-bits b are k m at l in
+      let count : ones (wordBits w (p .bytes)) ≡ ones (wordBits w k) =
+      ⊎-elim (λ e. ap (λ j. ones (wordBits w j)) (sym e))
+      (λ e.
+      subst (λ j. ones (wordBits w (p .bytes)) ≡ ones (wordBits w j)) (sym e)
+      (subst (λ v. ones (wordBits v (p .bytes)) ≡ ones (wordBits v m)) (sym made) (padded-ones b at m (p .bytes) (omega arith))))
+      which in
+      record {
+        opened = q .opened ∙ count ∙ ap (λ v. ones v) same;
+        falls = subst (λ v. fall v ≤ pending) same (omega (arith, fewer-fall k (p .bytes) w g, q .falls));
+      }
 
 -- ---- whole bytes, from any bit that a byte begins with
 
 pub none-yet : (b : List ℕ) (n : ℕ) (r : ScanState) → Stands n r → ReadOn b n r r
 none-yet b n r s = record { stands = s; on = omega arith; same = refl }
 
-pub all-at-once : (b : List ℕ) (n p w m : ℕ) {r s : ScanState} → p % 8 ≡ 0 → ReadOn b n (record { at = p / 8; pending = w; room = m }) r → ReadOn b n r s
-    → endFrom b n p w m ≡ endFrom b n (8 * s .at) (s .pending) (s .room)
+pub and-on : (b : List ℕ) (n : ℕ) {q r s : ScanState} → ReadOn b n q r → ReadOn b n r s → ReadOn b n q s
+and-on b n h g = record { stands = g .stands; on = omega (arith, h .on, g .on); same = h .same ∙ g .same }
+
+pub all-at-once : (b : List ℕ) (n p w m : ℕ) {r : ScanState} → p % 8 ≡ 0 → ReadOn b n (record { at = p / 8; pending = w; room = m }) r
+    → endFrom b n p w m ≡ endFrom b n (8 * r .at) (r .pending) (r .room)
 unfolding endFrom endAt
-all-at-once b n p w m z h g = ap (λ q. endFrom b n q w m) (let e : p ≡ 8 * (p / 8) = omega arith in e) ∙ h .same ∙ g .same
+all-at-once b n p w m z h = ap (λ q. endFrom b n q w m) (let e : p ≡ 8 * (p / 8) = omega arith in e) ∙ h .same

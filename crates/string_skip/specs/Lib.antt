@@ -1,2 +1,1 @@
-pub mod Falls
 pub mod Strides

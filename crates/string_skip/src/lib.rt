@@ -1,50 +1,12 @@
-// Words and bytes of a tree string passed over, where no bit of theirs can end the tree.
+// Bytes of a tree string passed over, where no bit of theirs can end the tree.
 ghost use mathlib.Core.Path.{_≡_};
-ghost use Prim.Native.Nat.{_*_, _≤_};
+ghost use Prim.Native.Nat.{_+_, _-_, _*_, _/_, _<_, _≤_};
 ghost use lib.ListN.{length};
-ghost use Rattle.bits_byte.specs.Byte.{byteBits};
-ghost use Rattle.string_skip.specs.Falls.{Falls, fall};
+ghost use Rattle.bits_word.specs.Little.{little};
 ghost use Rattle.string_skip.specs.Strides.{ReadOn, Stands};
-use bits_byte::ones_in_byte;
-use bits_wide::wide;
-use bits_word::ones_in_word;
-
-// A table of sixteen rows of sixteen: how far the pending nodes fall at most, on the way through a
-// byte; its row is that of its first four bits, its place there that of its last four.
-const FALLS: [[u8; 16]; 16] = [
-    [8, 7, 6, 6, 6, 5, 5, 5, 6, 5, 4, 4, 4, 4, 4, 4],
-    [6, 5, 4, 4, 4, 3, 3, 3, 4, 3, 3, 3, 3, 3, 3, 3],
-    [6, 5, 4, 4, 4, 3, 3, 3, 4, 3, 2, 2, 2, 2, 2, 2],
-    [4, 3, 2, 2, 2, 2, 2, 2, 2, 2, 2, 2, 2, 2, 2, 2],
-    [6, 5, 4, 4, 4, 3, 3, 3, 4, 3, 2, 2, 2, 2, 2, 2],
-    [4, 3, 2, 2, 2, 1, 1, 1, 2, 1, 1, 1, 1, 1, 1, 1],
-    [4, 3, 2, 2, 2, 1, 1, 1, 2, 1, 1, 1, 1, 1, 1, 1],
-    [2, 1, 1, 1, 1, 1, 1, 1, 1, 1, 1, 1, 1, 1, 1, 1],
-    [6, 5, 4, 4, 4, 3, 3, 3, 4, 3, 2, 2, 2, 2, 2, 2],
-    [4, 3, 2, 2, 2, 1, 1, 1, 2, 1, 1, 1, 1, 1, 1, 1],
-    [4, 3, 2, 2, 2, 1, 1, 1, 2, 1, 0, 0, 0, 0, 0, 0],
-    [2, 1, 0, 0, 0, 0, 0, 0, 0, 0, 0, 0, 0, 0, 0, 0],
-    [4, 3, 2, 2, 2, 1, 1, 1, 2, 1, 0, 0, 0, 0, 0, 0],
-    [2, 1, 0, 0, 0, 0, 0, 0, 0, 0, 0, 0, 0, 0, 0, 0],
-    [2, 1, 0, 0, 0, 0, 0, 0, 0, 0, 0, 0, 0, 0, 0, 0],
-    [0, 0, 0, 0, 0, 0, 0, 0, 0, 0, 0, 0, 0, 0, 0, 0],
-];
-
-// A copy of the table. A constant array is put together on the stack where it is named, so that a
-// caller that reads many trees makes one copy and lends it to all.
-pub fn table_of_falls() -> [[u8; 16]; 16]
-    ensures { λ r. ⌜ Falls r ⌝ }
-{
-    FALLS
-}
-
-// The table's entry of a byte.
-fn fall_of(falls: &[[u8; 16]; 16], x: u8) -> usize
-    requires { ⌜ Falls (now falls) ⌝ }
-    ensures { λ r. ⌜ r ≡ fall (byteBits x) ⌝ }
-{
-    falls[(x / 16) as usize][(x % 16) as usize] as usize
-}
+use bits_wide::byte_to_u64;
+use bits_word::stored_word;
+use string_pass::bytes_passed;
 
 // Where the reading of a tree is before a byte: the bytes before it, the nodes that are pending
 // besides the one that is read, and the nodes that are still allowed.
@@ -54,8 +16,50 @@ pub struct ScanState {
     pub room: usize,
 }
 
-// Reads on by words of eight bytes, as long as each can neither close the tree nor pass the limit.
-pub fn skip_words(b: &[u8], n: usize, from: ScanState) -> ScanState
+// The bytes from `at` to `end`, fewer than eight, as a word: zeros follow them.
+fn last_word(b: &[u8], at: usize, end: usize) -> u64
+    requires { ⌜ at ≤ end ⌝ }
+    requires { ⌜ end < at + 8 ⌝ }
+    requires { ⌜ end ≤ length (now b) ⌝ }
+    ensures { λ r. ⌜ r ≡ little (now (b .entry)) at (end - at) ⌝ }
+{
+    let mut word: u64 = 0;
+    let mut i = end;
+    while at < i {
+        i -= 1;
+        word = word * 256 + byte_to_u64(b[i]);
+    }
+    word
+}
+
+// Reads on in the last bytes, which are no word of their own: the zeros after them may be passed
+// too, but they open no node.
+fn skip_last(b: &[u8], n: usize, from: ScanState) -> ScanState
+    requires { ⌜ Stands n from ⌝ }
+    requires { ⌜ n / 8 < from .at + 8 ⌝ }
+    requires { ⌜ n ≤ 131071 ⌝ }
+    requires { ⌜ n ≤ 8 * length (now b) ⌝ }
+    ensures { λ r. ⌜ ReadOn (now (b .entry)) n from r ⌝ }
+{
+    let left = n / 8 - from.at;
+    let passed = bytes_passed(last_word(b, from.at, n / 8), from.pending);
+    if from.room < passed.opened {
+        return from;
+    }
+    let mut bytes = left;
+    if passed.bytes < left {
+        bytes = passed.bytes;
+    }
+    ScanState {
+        at: from.at + bytes,
+        pending: from.pending + 2 * passed.opened - 8 * bytes,
+        room: from.room - passed.opened,
+    }
+}
+
+// Reads on by words of eight bytes and then in the bytes that are left, up to a byte that may close
+// the tree or a word that may pass the limit.
+pub fn skip_bytes(b: &[u8], n: usize, from: ScanState) -> ScanState
     requires { ⌜ Stands n from ⌝ }
     requires { ⌜ n ≤ 131071 ⌝ }
     requires { ⌜ n ≤ 8 * length (now b) ⌝ }
@@ -63,50 +67,21 @@ pub fn skip_words(b: &[u8], n: usize, from: ScanState) -> ScanState
 {
     let mut r = from;
     while r.at + 8 <= n / 8 {
-        if r.pending < 64 {
-            return r;
-        }
-        let opened = wide(ones_in_word(b, r.at));
-        if r.room < opened {
+        let passed = bytes_passed(stored_word(b, r.at), r.pending);
+        if r.room < passed.opened {
             return r;
         }
         r = ScanState {
-            at: r.at + 8,
-            pending: r.pending + 2 * opened - 64,
-            room: r.room - opened,
+            at: r.at + passed.bytes,
+            pending: r.pending + 2 * passed.opened - 8 * passed.bytes,
+            room: r.room - passed.opened,
         };
+        if passed.bytes < 8 {
+            return r;
+        }
     }
-    r
-}
-
-// Reads on by bytes, as long as each can neither close the tree nor pass the limit, and words
-// cannot go on.
-pub fn skip_bytes(b: &[u8], n: usize, falls: &[[u8; 16]; 16], from: ScanState) -> ScanState
-    requires { ⌜ Stands n from ⌝ }
-    requires { ⌜ n ≤ 131071 ⌝ }
-    requires { ⌜ n ≤ 8 * length (now b) ⌝ }
-    requires { ⌜ Falls (now falls) ⌝ }
-    ensures { λ r. ⌜ ReadOn (now (b .entry)) n from r ⌝ }
-{
-    let mut r = from;
-    while r.at < n / 8 {
-        let at = r.at;
-        let byte = b[at];
-        if r.pending < fall_of(falls, byte) {
-            return r;
-        }
-        let opened = wide(ones_in_byte(byte));
-        if r.room < opened {
-            return r;
-        }
-        r = ScanState {
-            at: at + 1,
-            pending: r.pending + 2 * opened - 8,
-            room: r.room - opened,
-        };
-        if 64 <= r.pending {
-            return r;
-        }
+    if r.at < n / 8 {
+        return skip_last(b, n, r);
     }
     r
 }

@@ -13,7 +13,7 @@ use Rattle.theory.specs.Rank.{position, some, withChildren}
 use Rattle.theory.proofs.Runs.{ends, ends1, ends0, R1-bits, R0-bits, R1-length, R0-length}
 use Rattle.theory.proofs.Scan.{nodes-ones}
 use Rattle.theory.proofs.Bits.{lbs-injective, Over, string-of-tree}
-use Rattle.theory.proofs.Navigate.{parents-bits}
+use Rattle.theory.proofs.Navigate.{position-zero, parents-bits}
 use Rattle.theory.proofs.Parents.{are-parents, parents-are}
 use Rattle.theory.proofs.Odd.{both, tree-counts}
 
@@ -245,7 +245,13 @@ string-size ps h =
     let n = length-parents t in
     ap (λ qs. length (stringOf qs)) (sym (r .1)) ∙ ap length (string-parents t) ∙ omega (arith, both (lbs t), tree-counts t, nodes-ones t, ap length (r .1))
 
--- ---- select from a sample: a one after the first part is found in the second
+-- ---- select in two parts: a one of the first is found in it, a later one in the second
+
+pub position-front : (a b : List Bit) (k : ℕ) → k < ones a → position (a ++ b) (suc k) ≡ position a (suc k)
+position-front [] b k h = absurd (omega arith)
+position-front (O ∷ a) b k h = ap suc (position-front a b k h)
+position-front (I ∷ a) b zero h = ap suc (position-zero (a ++ b) ∙ sym (position-zero a))
+position-front (I ∷ a) b (suc k) h = ap suc (position-front a b k (omega arith))
 
 pub position-split : (a b : List Bit) (k : ℕ) → position (a ++ b) (suc (ones a + k)) ≡ length a + position b (suc k)
 position-split [] b k = ap (λ n. position b (suc n)) (let e : 0 + k ≡ k = omega arith in e) ∙ omega arith

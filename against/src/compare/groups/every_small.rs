@@ -1,6 +1,6 @@
 //! Everything that is small enough to be tried in full.
 
-use super::forms::{arguments, drawn_metres, kinds, offered_metres, takes_argument, Forms};
+use super::forms::{arguments, ask, drawn_metres, kinds, offered_metres, takes_argument, Forms};
 use super::image_damage::sealed_image_of;
 use crate::compare::call::Call;
 use crate::compare::comparison::{Comparison, Enough};
@@ -151,13 +151,6 @@ fn every_question(comparison: &mut Comparison, random: &mut Random, forms: &Form
         let before = allowed[..good.min(allowed.len())].concat();
         ask(comparison, random, forms, [before, odd.to_vec()].concat())?;
     }
-    Ok(())
-}
-
-fn ask(comparison: &mut Comparison, random: &mut Random, forms: &Forms, questions: Vec<i32>) -> Result<(), Enough> {
-    let spare = random.below(3);
-    let answers = random.words(questions.len() / 3 + spare);
-    comparison.compare(Call::Ask { image: forms.image.clone(), questions, answers })?;
     Ok(())
 }
 

@@ -38,11 +38,16 @@ impl Forms {
         [None, Some(metres)].map(|metres| Forms::of(parents.to_vec(), metres))
     }
 
+    /// A tree in either version.
+    pub fn of_either_version(random: &mut Random, parents: Vec<u32>) -> Forms {
+        let metres = random.one_in(2).then(|| drawn_metres(random, parents.len()));
+        Forms::of(parents, metres)
+    }
+
     /// A tree of `n` nodes and this shape, in either version.
     pub fn of_shape(random: &mut Random, shape: Shape, n: usize) -> Forms {
         let parents = parent_list(shape, n, random);
-        let metres = random.one_in(2).then(|| drawn_metres(random, n));
-        Forms::of(parents, metres)
+        Forms::of_either_version(random, parents)
     }
 
     /// A tree of `n` nodes and any shape, in either version.
@@ -178,6 +183,14 @@ pub fn allowed_question(random: &mut Random, n: usize, measured: bool) -> [i32; 
 /// `count` questions that an image of n nodes allows, without metres or with them.
 pub fn allowed_questions(random: &mut Random, n: usize, measured: bool, count: usize) -> Vec<i32> {
     (0..count).flat_map(|_| allowed_question(random, n, measured)).collect()
+}
+
+/// Questions with room for their answers, and sometimes for more.
+pub fn ask(comparison: &mut Comparison, random: &mut Random, forms: &Forms, questions: Vec<i32>) -> Result<(), Enough> {
+    let spare = random.below(3);
+    let answers = random.words(questions.len() / 3 + spare);
+    comparison.compare(Call::Ask { image: forms.image.clone(), questions, answers })?;
+    Ok(())
 }
 
 /// Every call on one tree, of those that make an image the one for its version, with rooms that mostly do.

@@ -1,6 +1,7 @@
 //! The groups of calls. Each is a function that makes calls up and hands them to a comparison.
 
 mod demand_three;
+mod every_byte;
 mod every_small;
 mod forms;
 mod image_damage;
@@ -49,6 +50,11 @@ pub const GROUPS: &[Group] = &[
     fixed("every R1 and R0 up to 6 nodes", every_small::partitioned_strings),
     fixed("every text up to 8 bytes", texts::every_text),
     fixed("every byte in every place of a text", texts::every_byte),
+    fixed("every byte of R1 and R0", every_byte::partitioned_strings),
+    fixed("every two bytes of R1 and R0", every_byte::two_bytes),
+    fixed("every byte of a string", every_byte::strings),
+    fixed("every byte of a pack", every_byte::packs),
+    fixed("every byte of a pack joined to", every_byte::joined_packs),
     fixed("lists of metres", metres::lists_of_metres),
     fixed("the root of trees of every size", questions_and_listings::the_root),
     drawn("trees of every shape", limits::trees_of_every_shape),
@@ -70,6 +76,7 @@ pub const GROUPS: &[Group] = &[
     drawn("images of no tree", image_damage::images_of_no_tree),
     drawn("images cut, lengthened, exchanged", image_damage::moved_blocks),
     drawn("demand 3", demand_three::demand_three),
+    fixed("every byte at the last node", every_byte::most_nodes),
     drawn("trees around the limits", limits::trees_around_the_limits),
     drawn("texts around the limits", texts::texts_around_the_limits),
 ];

@@ -93,12 +93,12 @@ fn bytes_and_length(random: &mut Random, string: &[bool]) -> (Vec<u8>, usize) {
 }
 
 /// A few trees and their strings end to end.
-struct Pack {
+pub struct Pack {
     trees: Vec<Vec<u32>>,
-    bits: Vec<bool>,
+    pub bits: Vec<bool>,
 }
 
-fn pack_of(trees: Vec<Vec<u32>>) -> Pack {
+pub fn pack_of(trees: Vec<Vec<u32>>) -> Pack {
     let bits = trees.iter().flat_map(|parents| Forms::of(parents.clone(), None).string).collect();
     Pack { trees, bits }
 }

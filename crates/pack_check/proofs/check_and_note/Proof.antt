@@ -14,8 +14,8 @@ leftover-set-requires c κs = search needs
 row-requires : tie.Need-row-requires
 row-requires c κs = search needs
 
-scan-pack-requires : tie.Need-scan-pack-requires
-scan-pack-requires c κs = search needs
+scan-trees-requires : tie.Need-scan-trees-requires
+scan-trees-requires c κs = search needs
 
 place-in-requires : tie.Need-place-in-requires
 place-in-requires c κs = search needs
@@ -54,10 +54,10 @@ returns c =
     let leftover = l .row .ensures ∙ ap (λ b. alone (5 at 0 when b)) (l .before .leftover-set .ensures) in
     let string = n .before .before .row2 .ensures ∙ ap (λ x. alone (4 at x when not (eqb x 0))) (p .place-in .ensures) in
     let count = n .row3 .ensures ∙ ap (λ x. alone (10 at x when not (eqb x (a .trees)))) (n .before .trees-in .ensures) in
-    let scan = s .scan-pack .ensures in (
+    let scan = s .scan-trees .ensures in (
       c .upper2 .ensures
           ∙ ap₂ over leftover (c .before .upper .ensures ∙ ap₂ over string count)
-          ∙ held (a .b .now) (a .n) (a .trees) (s .scan-pack .result) (scan .0),
+          ∙ held (a .b .now) (a .n) (a .trees) (s .scan-trees .result) (scan .0),
       (λ e. scan .1 .0, λ e. scan .1 .1),
     )
 
@@ -67,7 +67,7 @@ check-and-note-spec =
     (tie.spec
     leftover-set-requires
     row-requires
-    scan-pack-requires
+    scan-trees-requires
     place-in-requires
     row-requires-2
     trees-in-requires

@@ -8,10 +8,10 @@ use Rattle.pack_scan.proofs.scan_trees.Statement.{statement}
 use Rattle.pack_scan.proofs.scan_trees.Tie as tie
 
 abbrev Inv-loop : tie.InvT-loop
-Inv-loop b n falls firsts₀ counts₀ trees₀ at₀ firsts counts trees at = Noted b n firsts₀ counts₀ at trees firsts counts
+Inv-loop b n firsts₀ counts₀ trees₀ at₀ firsts counts trees at = Noted b n firsts₀ counts₀ at trees firsts counts
 
 abbrev μ-loop : tie.MeasureT-loop
-μ-loop b n falls firsts₀ counts₀ trees₀ at₀ firsts counts trees at = n - at
+μ-loop b n firsts₀ counts₀ trees₀ at₀ firsts counts trees at = n - at
 
 -- where a tree is over
 over-at : (c : tie.After-end2 Inv-loop μ-loop) →
@@ -21,23 +21,23 @@ over-at : (c : tie.After-end2 Inv-loop μ-loop) →
     (at < next) × (next ≤ c .before .before .before .before .before .before .before .before .args .n) × (size ≤ 65535) × (next ≡ at + (2 * size + 1))
 over-at c =
     next-at _ _ _ _ (c .before .before .before .before .loop .inv .scanned) (c .before .before .before .loop-test .taken)
-    (told-over _ _ _ _ (c .before .before .tree-end-by .ensures) (c .end2 .given .1))
+    (told-over _ _ _ _ (c .before .before .tree-end .ensures) (c .end2 .given .1))
 
 loop-holds : tie.Need-loop-holds Inv-loop μ-loop
 loop-holds c = noted-first _ _ _ _
 
-tree-end-by-requires : tie.Need-tree-end-by-requires Inv-loop μ-loop
-tree-end-by-requires c κs = search needs
+tree-end-requires : tie.Need-tree-end-requires Inv-loop μ-loop
+tree-end-requires c κs = search needs
 
 enum-known-end : tie.Need-enum-known-end Inv-loop μ-loop
 enum-known-end c = search needs
 
-cast-t13 : tie.Need-cast-t13 Inv-loop μ-loop
-cast-t13 c =
+cast-t12 : tie.Need-cast-t12 Inv-loop μ-loop
+cast-t12 c =
     omega (
       arith,
       refused-at _ _ _ _ (c .before .before .before .before .before .loop .inv .scanned) (c .before .before .before .before .loop-test .taken)
-          (told-refused _ _ _ _ (c .before .before .before .tree-end-by .ensures) (c .before .end .given .1)) .1,
+          (told-refused _ _ _ _ (c .before .before .before .tree-end .ensures) (c .before .end .given .1)) .1,
     )
 
 same-length : tie.Need-same-length Inv-loop μ-loop
@@ -49,7 +49,7 @@ same-length-2 c = noted-lengths _ _ _ _ _ _ _ _ (c .before .before .before .befo
 returns : tie.Need-returns Inv-loop μ-loop
 returns c =
     let i = c .before .before .before .before .before .loop .inv in
-    let e = told-refused _ _ _ _ (c .before .before .before .tree-end-by .ensures) (c .before .end .given .1) in
+    let e = told-refused _ _ _ _ (c .before .before .before .tree-end .ensures) (c .before .end .given .1) in
     (scanned-refused _ _ _ _ (i .scanned) (c .before .before .before .before .loop-test .taken) e, noted-refused _ _ _ _ _ _ _ _ i e)
 
 enum-known-end-2 : tie.Need-enum-known-end-2 Inv-loop μ-loop
@@ -80,11 +80,11 @@ loop-again : tie.Need-loop-again Inv-loop μ-loop
 loop-again c =
     let o = c .before .before .before .before .before .before .before .before .before in
     noted-next _ _ _ _ _ _ _ _ (o .before .before .before .before .loop .inv) (o .before .before .before .loop-test .taken)
-    (told-over _ _ _ _ (o .before .before .tree-end-by .ensures) (o .end2 .given .1)) (c .before .before .before .before .before .before .note .ensures)
+    (told-over _ _ _ _ (o .before .before .tree-end .ensures) (o .end2 .given .1)) (c .before .before .before .before .before .before .note .ensures)
     (c .before .before .note2 .ensures)
 
-cast-t21 : tie.Need-cast-t21 Inv-loop μ-loop
-cast-t21 c = omega (arith, c .before .loop .inv .scanned .few)
+cast-t20 : tie.Need-cast-t20 Inv-loop μ-loop
+cast-t20 c = omega (arith, c .before .loop .inv .scanned .few)
 
 same-length-3 : tie.Need-same-length-3 Inv-loop μ-loop
 same-length-3 c = noted-lengths _ _ _ _ _ _ _ _ (c .before .loop .inv) .0
@@ -102,9 +102,9 @@ scan-trees-spec =
     Inv-loop
     μ-loop
     loop-holds
-    tree-end-by-requires
+    tree-end-requires
     enum-known-end
-    cast-t13
+    cast-t12
     same-length
     same-length-2
     returns
@@ -117,7 +117,7 @@ scan-trees-spec =
     add-trees
     loop-less
     loop-again
-    cast-t21
+    cast-t20
     same-length-3
     same-length-4
     returns-2)

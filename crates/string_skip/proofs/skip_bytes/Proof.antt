@@ -1,80 +1,102 @@
 -- `string_skip::skip_bytes` meets its contract.
-use mathlib.Core.Path.{_∙_}
-use Prim.Native.Nat.{_-_, _/_}
-use native.Mathlib.Omega.{arith}
+use mathlib.Core.Path.{refl}
+use mathlib.Core.Logic.{inl}
+use Prim.Native.Nat.{_+_, _-_, _*_, _/_, _≤_}
 use borrow.Author.Needs.{needs}
+use native.Mathlib.Omega.{arith}
+use Rattle.theory.specs.Layout.{AreBytes}
 use Rattle.string_skip.specs.Strides.{ReadOn}
-use Rattle.string_skip.proofs.Whole.{none-yet, byte-left, byte-more}
+use Rattle.string_skip.proofs.Whole.{none-yet, more, more-left, Told, told, and-on}
 use Rattle.string_skip.proofs.skip_bytes.Statement.{statement}
 use Rattle.string_skip.proofs.skip_bytes.Tie as tie
 
 abbrev Inv-loop : tie.InvT-loop
-Inv-loop b n falls r₀ r = ReadOn b n r₀ r
+Inv-loop b n r₀ r = ReadOn b n r₀ r
 
 abbrev μ-loop : tie.MeasureT-loop
-μ-loop b n falls r₀ r = n / 8 - r .at
+μ-loop b n r₀ r = n / 8 - r .at
+
+known : (c : tie.After-bytes-passed Inv-loop μ-loop) →
+    let r = c .before .before .before .before .loop .r in
+    let p = c .bytes-passed .result in
+    Told (c .before .before .before .before .before .before .args .b .now) (r .at) (r .pending) (p .bytes) (p .opened)
+known c =
+    let s = c .before .before .before .before .before in
+    let b = s .before .args .b .now in
+    let r = c .before .before .before .before .loop .r in
+    let p = c .bytes-passed .result in
+    let are : AreBytes b = λ i l. omega (arith, s .shared-slice-known .given i) in
+    told b are (r .at) 8 (c .before .stored-word .result) (r .pending) (c .before .stored-word .ensures) p (c .bytes-passed .ensures) (p .bytes) (c .bytes-passed .ensures .few)
+    (omega arith) (inl refl)
+
+-- the bytes are there, and passed over
+on : (c : tie.Else2 Inv-loop μ-loop) →
+    let l = c .before .before .before .before .before .before .before .loop in
+    let p = c .before .before .before .bytes-passed .result in
+    (8 * p .bytes ≤ l .r .pending + 2 * p .opened)
+    × ReadOn (c .before .before .before .before .before .before .before .before .before .args .b .now)
+    (c .before .before .before .before .before .before .before .before .before .args .n)
+    (c .before .before .before .before .before .before .before .before .before .args .from)
+    (record { at = l .r .at + p .bytes; pending = l .r .pending + 2 * p .opened - 8 * p .bytes; room = l .r .room - p .opened })
+on c =
+    let a = c .before .before .before .before .before .before .before in
+    let p = c .before .before .before .bytes-passed .result in
+    let t = known (c .before .before .before) in
+    let few = c .before .before .before .bytes-passed .ensures .few in
+    let here : a .loop .r .at + p .bytes ≤ a .before .before .args .n / 8 = omega (arith, few, c .before .before .before .before .before .if1 .taken) in (
+      more-left _ _ _ (a .loop .r) (a .loop .inv) (p .bytes) (p .opened) here (t .opened) (t .falls),
+      more _ _ _ (a .loop .r) (a .loop .inv) (p .bytes) (p .opened) here (t .opened) (t .falls) (c .if2 .left),
+    )
 
 loop-holds : tie.Need-loop-holds Inv-loop μ-loop
 loop-holds c = none-yet _ _ _ (c .before .pre .0)
 
-shared-slice-read-byte : tie.Need-shared-slice-read-byte Inv-loop μ-loop
-shared-slice-read-byte c = search needs
+add-if1 : tie.Need-add-if1 Inv-loop μ-loop
+add-if1 c = search needs
 
-fall-of-requires : tie.Need-fall-of-requires Inv-loop μ-loop
-fall-of-requires c κs = search needs
+stored-word-requires : tie.Need-stored-word-requires Inv-loop μ-loop
+stored-word-requires c κs = search needs
+
+bytes-passed-requires : tie.Need-bytes-passed-requires Inv-loop μ-loop
+bytes-passed-requires c κs = search needs
 
 returns : tie.Need-returns Inv-loop μ-loop
 returns c = search needs
 
-ones-in-byte-requires : tie.Need-ones-in-byte-requires Inv-loop μ-loop
-ones-in-byte-requires c κs = search needs
+add-t6 : tie.Need-add-t6 Inv-loop μ-loop
+add-t6 c = omega (arith, c .before .before .before .before .before .bytes-passed .ensures .few)
 
-wide-requires : tie.Need-wide-requires Inv-loop μ-loop
-wide-requires c κs = search needs
+mul-t7 : tie.Need-mul-t7 Inv-loop μ-loop
+mul-t7 c = search needs
+
+add-t10 : tie.Need-add-t10 Inv-loop μ-loop
+add-t10 c = search needs
+
+mul-t11 : tie.Need-mul-t11 Inv-loop μ-loop
+mul-t11 c = omega (arith, c .before .before .before .before .before .before .before .before .bytes-passed .ensures .few)
+
+sub-t12 : tie.Need-sub-t12 Inv-loop μ-loop
+sub-t12 c = omega (arith, on (c .before .before .before .before .before) .0)
 
 returns-2 : tie.Need-returns-2 Inv-loop μ-loop
-returns-2 c = search needs
-
-add-t9 : tie.Need-add-t9 Inv-loop μ-loop
-add-t9 c = search needs
-
-mul-t14 : tie.Need-mul-t14 Inv-loop μ-loop
-mul-t14 c = search needs
-
-add-t15 : tie.Need-add-t15 Inv-loop μ-loop
-add-t15 c = search needs
-
-sub-t16 : tie.Need-sub-t16 Inv-loop μ-loop
-sub-t16 c =
-    let l = c .before .before .before .before .before .before .before .before .before .before .before .loop in
-    omega (
-      arith,
-      byte-left _ _ _ (l .r) (l .inv) (c .before .before .before .before .before .before .before .before .before .if1 .taken)
-          (c .before .before .before .wide .ensures ∙ c .before .before .before .before .ones-in-byte .ensures)
-          (c .before .before .before .before .before .before .before .fall-of .ensures) (c .before .before .before .before .before .if2 .left),
-    )
-
-returns-3 : tie.Need-returns-3 Inv-loop μ-loop
-returns-3 c =
-    let l = c .before .before .before .before .before .before .before .before .before .before .before .before .before .before .loop in
-    byte-more _ _ _ (l .r) (l .inv) (c .before .before .before .before .before .before .before .before .before .before .before .before .if1 .taken)
-    (c .before .before .before .before .before .before .wide .ensures ∙ c .before .before .before .before .before .before .before .ones-in-byte .ensures)
-    (c .before .before .before .before .before .before .before .before .before .before .fall-of .ensures)
-    (c .before .before .before .before .before .before .before .before .if2 .left) (c .before .before .before .before .if3 .left)
+returns-2 c = on (c .before .before .before .before .before .before .before .before .before) .1
 
 loop-less : tie.Need-loop-less Inv-loop μ-loop
-loop-less c = search needs
+loop-less c = omega (arith, c .if3 .left)
 
 loop-again : tie.Need-loop-again Inv-loop μ-loop
-loop-again c =
-    let l = c .before .before .before .before .before .before .before .before .before .before .before .before .before .before .loop in
-    byte-more _ _ _ (l .r) (l .inv) (c .before .before .before .before .before .before .before .before .before .before .before .before .if1 .taken)
-    (c .before .before .before .before .before .before .wide .ensures ∙ c .before .before .before .before .before .before .before .ones-in-byte .ensures)
-    (c .before .before .before .before .before .before .before .before .before .before .fall-of .ensures)
-    (c .before .before .before .before .before .before .before .before .if2 .left) (c .before .before .before .before .if3 .left)
+loop-again c = on (c .before .before .before .before .before .before .before .before .before) .1
+
+skip-last-requires : tie.Need-skip-last-requires Inv-loop μ-loop
+skip-last-requires c κs =
+    let e = c .before .before in
+    (e .before .before .loop .inv .stands, (omega (arith, e .if1 .left), (omega arith, omega arith)))
+
+returns-3 : tie.Need-returns-3 Inv-loop μ-loop
+returns-3 c = and-on _ _ (c .before .before .before .before .before .loop .inv) (c .skip-last .ensures)
 
 returns-4 : tie.Need-returns-4 Inv-loop μ-loop
-returns-4 c = search needs
+returns-4 c = c .before .before .before .before .loop .inv
 
 pub skip-bytes-spec : {M : Type 1} → statement M
 skip-bytes-spec =
@@ -83,17 +105,18 @@ skip-bytes-spec =
     Inv-loop
     μ-loop
     loop-holds
-    shared-slice-read-byte
-    fall-of-requires
+    add-if1
+    stored-word-requires
+    bytes-passed-requires
     returns
-    ones-in-byte-requires
-    wide-requires
+    add-t6
+    mul-t7
+    add-t10
+    mul-t11
+    sub-t12
     returns-2
-    add-t9
-    mul-t14
-    add-t15
-    sub-t16
-    returns-3
     loop-less
     loop-again
+    skip-last-requires
+    returns-3
     returns-4)

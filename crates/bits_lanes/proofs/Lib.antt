@@ -1,0 +1,5 @@
+pub mod Lanes
+pub mod Zeros
+pub mod Counts
+pub mod Sums
+pub mod Stored

@@ -1,0 +1,4 @@
+pub mod Falls
+pub mod Bits
+pub mod Heights
+pub mod Passing

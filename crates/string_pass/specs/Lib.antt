@@ -1,0 +1,3 @@
+pub mod Falls
+pub mod Heights
+pub mod Passes
