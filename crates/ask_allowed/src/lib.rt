@@ -1,4 +1,6 @@
 // Which questions are allowed; their signed numbers are taken apart here and nowhere else.
+#![tactic(auto)]
+
 ghost use Rattle.std.specs.Prelude.{◌≡◌, ◌+◌, ◌*◌, ◌≤◌, ◌<◌, pos, get_or, length};
 ghost use Rattle.meaning.specs.Questions.{allowed, allowed_kind, kind_of, not_allowed, number_of, questions};
 ghost use Rattle.ask_argument.specs.Values.{value_of};

@@ -1,4 +1,6 @@
 // The answers to a list of questions, each of which is allowed.
+#![tactic(auto)]
+
 ghost use Rattle.std.specs.Prelude.{◌≡◌, true, map, ◌+◌, ◌*◌, ◌≤◌, length};
 ghost use Rattle.meaning.specs.Answers.{written};
 ghost use Rattle.meaning.specs.Image.{list_of, metres_in, parents_in, present};

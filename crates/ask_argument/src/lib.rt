@@ -1,10 +1,12 @@
 // The sign and the size of a question's argument; a node's number moved by it, within bounds.
+#![tactic(auto)]
+
 ghost use Rattle.std.specs.Prelude.{◌≡◌, ◌≤◌};
 ghost use Rattle.theory.specs.ByStrings.{within};
 ghost use Rattle.ask_argument.specs.Values.{value_of, moved};
 
 // The argument of a question: its size, or minus its size.
-#[derive(Drop)]
+#[derive(Clone, Copy)]
 pub struct Signed {
     pub below: bool,
     pub size: u32,

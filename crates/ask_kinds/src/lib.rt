@@ -1,4 +1,6 @@
 // The eleven kinds of questions, answered from an image that the check found sound.
+#![tactic(auto)]
+
 ghost use Rattle.std.specs.Prelude.{◌≡◌, ◌≤◌, pos};
 ghost use Rattle.meaning.specs.Image.{list_of, metres_in, parents_in};
 ghost use Rattle.meaning.specs.Questions.{answer_kind, kind_of};

@@ -1,4 +1,6 @@
 // Bits, and zeros, appended to a lent buffer; the rest of the last byte becomes zero.
+#![tactic(auto)]
+
 ghost use Rattle.std.specs.Prelude.{◌≡◌, ◌+◌, ◌*◌, ◌≤◌, length, replicate, take};
 ghost use Rattle.meaning.specs.Strings.{O};
 ghost use Rattle.bits_byte.specs.Byte.{byte_bits};

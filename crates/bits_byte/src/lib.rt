@@ -1,4 +1,6 @@
 // One bit of bytes, read and set; the bits of a byte: the first of them kept, the ones counted.
+#![tactic(auto)]
+
 ghost use Rattle.std.specs.Prelude.{◌≡◌, [], ◌∷◌, ◌*◌, ◌<◌, ◌≤◌, length, take};
 ghost use Rattle.meaning.specs.Bytes.{bit_at, value, number};
 ghost use Rattle.bits_byte.specs.Lit.{lit};

@@ -1,4 +1,6 @@
 // Ones counted: in a run of bits, in part of eight bytes, in eight bytes but not in eight others.
+#![tactic(auto)]
+
 ghost use Rattle.std.specs.Prelude.{◌≡◌, ◌+◌, ◌*◌, ◌/◌, ◌<◌, ◌≤◌, length};
 ghost use Rattle.meaning.specs.Strings.{ones};
 ghost use Rattle.meaning.specs.Bytes.{bit_at, bits_from, value};

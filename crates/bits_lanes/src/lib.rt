@@ -1,9 +1,11 @@
 // The eight bytes of a word, each a lane of eight digits: the ones of every byte counted at once.
+#![tactic(auto)]
+
 ghost use Rattle.std.specs.Prelude.{◌≡◌};
 ghost use Rattle.bits_lanes.specs.Lanes.{each, ones_earlier, ones_in};
 
 // The ones of each byte of a word, and those of all earlier bytes.
-#[derive(Drop)]
+#[derive(Clone, Copy)]
 pub struct Ones {
     pub here: u64,
     pub earlier: u64,

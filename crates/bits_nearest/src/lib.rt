@@ -1,4 +1,6 @@
 // The nearest one on either side of a bit, in the 4,000 bits of a block, by words.
+#![tactic(auto)]
+
 ghost use Rattle.std.specs.Prelude.{◌+◌, ◌*◌, ◌≤◌, ◌<◌, length};
 ghost use Rattle.bits_nearest.specs.Found.{LastOne, FirstOne};
 

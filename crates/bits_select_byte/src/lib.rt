@@ -1,5 +1,7 @@
 // The place of a one in a byte: the ones before it are removed, and the zeros in front of it are
 // counted.
+#![tactic(auto)]
+
 ghost use Rattle.std.specs.Prelude.{◌≡◌, ◌≤◌};
 ghost use Rattle.meaning.specs.Strings.{ones};
 ghost use Rattle.theory.specs.Rank.{position};

@@ -1,4 +1,6 @@
 // Numbers made wider: each keeps its value.
+#![tactic(auto)]
+
 ghost use Rattle.std.specs.Prelude.{◌≡◌, ◌<◌};
 
 pub fn wide(x: u32) -> usize

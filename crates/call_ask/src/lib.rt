@@ -1,4 +1,6 @@
 // The call `ask`: the whole check, which questions are allowed, and their answers.
+#![tactic(auto)]
+
 ghost use Rattle.std.specs.Prelude.{◌≡◌};
 ghost use Rattle.meaning.specs.Answers.{came_to};
 ghost use Rattle.calls.specs.Calls.{ask_image};

@@ -1,4 +1,6 @@
 // The call `check_image`: n and m of an image that the whole check finds sound, or the refusal.
+#![tactic(auto)]
+
 ghost use Rattle.std.specs.Prelude.{◌≡◌};
 ghost use Rattle.meaning.specs.Answers.{came_to};
 ghost use Rattle.calls.specs.Calls.{check_image};

@@ -1,4 +1,6 @@
 // The call `image_of_parents`: the sealed image of a parent list.
+#![tactic(auto)]
+
 ghost use Rattle.std.specs.Prelude.{◌≡◌};
 ghost use Rattle.meaning.specs.Answers.{came_to};
 ghost use Rattle.calls.specs.Calls.{image_of_parents};

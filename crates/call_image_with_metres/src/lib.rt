@@ -1,5 +1,7 @@
 // The call `image_with_metres`: the sealed image of a parent list with a number of metres for each
 // node.
+#![tactic(auto)]
+
 ghost use Rattle.std.specs.Prelude.{◌≡◌};
 ghost use Rattle.meaning.specs.Answers.{came_to};
 ghost use Rattle.calls.specs.Calls.{image_with_metres};

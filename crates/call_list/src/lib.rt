@@ -1,4 +1,6 @@
 // The call `list`: the whole check, then the listing of a node, measured and written.
+#![tactic(auto)]
+
 ghost use Rattle.std.specs.Prelude.{◌≡◌};
 ghost use Rattle.meaning.specs.Answers.{came_to};
 ghost use Rattle.calls.specs.Calls.{list_image};

@@ -1,4 +1,6 @@
 // The call `parents_of_image`: the parent list of a sealed tree, after the whole check.
+#![tactic(auto)]
+
 ghost use Rattle.std.specs.Prelude.{◌≡◌};
 ghost use Rattle.meaning.specs.Answers.{came_to};
 ghost use Rattle.calls.specs.Calls.{parents_of_image};

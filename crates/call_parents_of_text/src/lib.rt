@@ -1,4 +1,6 @@
 // The call `parents_of_text`: the parent list of a tree that is given as parenthesis text.
+#![tactic(auto)]
+
 ghost use Rattle.std.specs.Prelude.{◌≡◌};
 ghost use Rattle.meaning.specs.Answers.{came_to};
 ghost use Rattle.calls.specs.Calls.{parents_of_text};

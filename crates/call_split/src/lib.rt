@@ -1,4 +1,6 @@
 // The call `split`: the first bit and the node count of each tree of a pack.
+#![tactic(auto)]
+
 ghost use Rattle.std.specs.Prelude.{◌≡◌};
 ghost use Rattle.meaning.specs.Answers.{came_to};
 ghost use Rattle.calls.specs.Calls.{split_pack};

@@ -1,4 +1,6 @@
 // The call `string_of_parents`: the tree string of a parent list.
+#![tactic(auto)]
+
 ghost use Rattle.std.specs.Prelude.{◌≡◌};
 ghost use Rattle.meaning.specs.Answers.{came_to};
 ghost use Rattle.calls.specs.Calls.{string_of_parents};

@@ -1,4 +1,6 @@
 // The call `text_of_parents`: the brackets of a parent list, as text.
+#![tactic(auto)]
+
 ghost use Rattle.std.specs.Prelude.{◌≡◌};
 ghost use Rattle.meaning.specs.Answers.{came_to};
 ghost use Rattle.calls.specs.Calls.{text_of_parents};

@@ -5,6 +5,8 @@
 // call answered and every list that it wrote to, whole. Such a list holds 9s before the call: what
 // is not written must stay. A number that a line lacks is 0, and a size is cut to what there is, so
 // that every script is safe to run.
+#![tactic(auto)]
+
 use cases_script::{Word, number, room, signed, size};
 use cases_show::Digest;
 use meaning::Answer;

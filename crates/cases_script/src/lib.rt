@@ -2,6 +2,8 @@
 // A line is a word and decimal numbers, each after a space. A number is kept as its lowest 32 bits:
 // -1 is 4294967295. One that a line lacks counts as 0, so that no line is wrong.
 // The words are in `words`, and what the lines are run on in `material`.
+#![tactic(auto)]
+
 mod material;
 mod words;
 

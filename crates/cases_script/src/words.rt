@@ -2,7 +2,7 @@
 
 // What the first word of a line asks for: a tree, up to `Mixed`, metres, up to `Rise`, and other
 // bytes in hand, up to `Pad`, as `material` says; then what the program `cases` does.
-#[derive(Drop)]
+#[derive(Clone, Copy)]
 pub enum Word {
     Parents,
     Grow,

@@ -1,4 +1,6 @@
 // What a call answered and wrote, as text: a list by its entries, or, if long, by counts and sums.
+#![tactic(auto)]
+
 use meaning::Answer;
 use std::num::wrapping_add_u32;
 
@@ -7,7 +9,7 @@ const MOST_SHOWN: usize = 300;
 
 // How many of some numbers are 9, and two sums, made as those of a block are made of its words:
 // they are shown for a long list.
-#[derive(Drop)]
+#[derive(Clone, Copy)]
 pub struct Digest {
     pub nines: u32,
     pub s: u32,

@@ -1,4 +1,6 @@
 // The number of earlier ones in each block of a string, and the string's samples.
+#![tactic(auto)]
+
 ghost use Rattle.std.specs.Prelude.{◌≡◌, ℕ, ◌+◌, ◌*◌, ◌≤◌, length};
 ghost use Rattle.theory.specs.Bounds.{most_block};
 ghost use Rattle.meaning.specs.Strings.{ones};

@@ -1,4 +1,6 @@
 // Of a whole string of an image: m ones, the last bit one, and zeros after it.
+#![tactic(auto)]
+
 ghost use Rattle.std.specs.Prelude.{◌≡◌, ◌+◌, ◌≤◌, ◌*◌, length};
 ghost use Rattle.theory.specs.Bounds.{most_block};
 ghost use Rattle.image_string.specs.Decides.{Decides};

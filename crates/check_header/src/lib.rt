@@ -1,4 +1,6 @@
 // The header, block 0: the version; then n, m, the number of blocks, zeros in the reserved words.
+#![tactic(auto)]
+
 ghost use Rattle.std.specs.Prelude.{◌≡◌, ◌*◌, ◌≤◌, length};
 ghost use Rattle.theory.specs.Bounds.{most_block};
 ghost use Rattle.theory.specs.Stages.{version_in, Known};
@@ -27,7 +29,7 @@ pub fn version_known(b: &[u8]) -> bool
 
 // What block 0 says after its version: the layout of an image with right numbers and reserved
 // words, or that it is wrong.
-#[derive(Drop)]
+#[derive(Clone, Copy)]
 pub enum HeaderFound {
     Right(Layout),
     Wrong,

@@ -1,4 +1,6 @@
 // The whole check of an image: sizes, sums, then the stages; what it finds is an enum.
+#![tactic(auto)]
+
 ghost use Rattle.std.specs.Prelude.{◌≡◌};
 ghost use Rattle.image_found.specs.Checked.{checked};
 

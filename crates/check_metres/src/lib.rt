@@ -1,4 +1,6 @@
 // Where an image has metres: zeros in the words behind the last of them.
+#![tactic(auto)]
+
 ghost use Rattle.image_layout.specs.Fits.{LaidOut};
 ghost use Rattle.image_string.specs.Decides.{Decides};
 ghost use Rattle.check_metres.specs.Ends.{MetresEnded};

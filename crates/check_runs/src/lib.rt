@@ -1,4 +1,6 @@
 // The runs of R1 and R0 in step: blocks passed over by counts or samples, else word by word.
+#![tactic(auto)]
+
 ghost use Rattle.std.specs.Prelude.{◌≡◌, ◌+◌, ◌/◌, ◌<◌, ◌≤◌, ◌*◌, length};
 ghost use Rattle.image_string.specs.Decides.{Decides};
 ghost use Rattle.check_runs_words.specs.Steps.{StepAt};

@@ -1,4 +1,6 @@
 // R1 and R0 in step through a whole block, shown by their samples alone.
+#![tactic(auto)]
+
 ghost use Rattle.std.specs.Prelude.{◌+◌, ◌*◌, ◌≤◌};
 ghost use Rattle.image_layout.specs.Fits.{LaidOut};
 ghost use Rattle.check_runs_samples.specs.Ahead.{Tells, Ahead};

@@ -1,4 +1,6 @@
 // R1 and R0 in step in up to eight bytes: by the number of ones where it suffices, else by bits.
+#![tactic(auto)]
+
 ghost use Rattle.std.specs.Prelude.{◌≡◌, ◌+◌, ◌*◌, ◌/◌, ◌≤◌, length};
 ghost use Rattle.meaning.specs.Strings.{ones};
 ghost use Rattle.theory.specs.Bounds.{most_block, most_ones};

@@ -1,4 +1,6 @@
 // One sample: does it name the right bit? And are the words after the last number of a list zero?
+#![tactic(auto)]
+
 ghost use Rattle.std.specs.Prelude.{◌+◌, ◌*◌, ◌≤◌, length};
 ghost use Rattle.theory.specs.Bounds.{most_block};
 ghost use Rattle.meaning.specs.Strings.{ones};
@@ -16,7 +18,7 @@ use image_words::word;
 
 // Bits of a string in an image, from byte `at` on: those from position `first` to position `last`
 // of the string, counted from 1.
-#[derive(Drop)]
+#[derive(Clone, Copy)]
 pub struct Piece {
     pub at: usize,
     pub first: usize,

@@ -1,4 +1,6 @@
 // A table of the ones before each word of eight bytes of a block.
+#![tactic(auto)]
+
 ghost use Rattle.std.specs.Prelude.{◌≡◌, ℕ, ◌+◌, ◌*◌, ◌≤◌, ◌<◌, get_or, length, set};
 ghost use Rattle.theory.specs.Tables.{sum_to};
 ghost use Rattle.check_sample_table.specs.Table.{WordCounts};

@@ -1,5 +1,7 @@
 // The stages of the check after the sums and the header, in order: the end of the metres, counts,
 // ends, samples, runs.
+#![tactic(auto)]
+
 ghost use Rattle.image_layout.specs.Fits.{LaidOut};
 ghost use Rattle.image_string.specs.Decides.{Decides};
 ghost use Rattle.check_stages.specs.Passes.{StringsPass, StagesPass};

@@ -1,4 +1,6 @@
 // The lowest block with a wrong count of earlier ones or unused payload that is not zero.
+#![tactic(auto)]
+
 ghost use Rattle.std.specs.Prelude.{◌≡◌, ◌+◌, ◌*◌, ◌≤◌, length};
 ghost use Rattle.theory.specs.Bounds.{most_block};
 ghost use Rattle.meaning.specs.Image.{string_blocks};

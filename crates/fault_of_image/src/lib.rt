@@ -1,5 +1,7 @@
 // What is wrong with an image that the check refuses, its header being right: the second pass, in
 // the order of the codes.
+#![tactic(auto)]
+
 ghost use Rattle.std.specs.Prelude.{◌≡◌};
 ghost use Rattle.theory.specs.Stages.{Header};
 ghost use Rattle.image_layout.specs.Layout.{layout_in};

@@ -1,4 +1,6 @@
 // The lowest block of an image with a wrong sample, where all but the samples is right.
+#![tactic(auto)]
+
 ghost use Rattle.std.specs.Prelude.{◌≡◌, ℕ, ◌+◌, ◌*◌, ◌≤◌, ◌<◌, length};
 ghost use Rattle.theory.specs.Bounds.{most_block};
 ghost use Rattle.meaning.specs.Strings.{ones};

@@ -1,5 +1,7 @@
 // Whether a tree with the header's n and m gives the strings of an image: by running sums, since
 // the counts of earlier ones may be wrong. Which of these are is told on the way.
+#![tactic(auto)]
+
 ghost use Rattle.std.specs.Prelude.{◌≡◌, ◌+◌, ◌-◌, ◌*◌, ◌/◌, ◌≤◌, length};
 ghost use Rattle.theory.specs.Bounds.{most_block};
 ghost use Rattle.theory.specs.Faults.{LowestWrong};
@@ -18,7 +20,7 @@ use image_string::string_bit;
 use image_words::word;
 
 // The lowest block of each string that counts the ones of earlier blocks wrong; 0 if none does.
-#[derive(Drop)]
+#[derive(Clone, Copy)]
 pub struct Miscounted {
     pub in_r1: u32,
     pub in_r0: u32,
@@ -26,7 +28,7 @@ pub struct Miscounted {
 
 // What the pass over both strings finds: that no tree with n and m gives them, or that one does and
 // which of their counts are wrong.
-#[derive(Drop)]
+#[derive(Clone, Copy)]
 pub enum StringsFound {
     Wrong,
     Given(Miscounted),

@@ -1,4 +1,6 @@
 // What the check of an image (`check_image`) finds, and the code and place that a caller gets.
+#![tactic(auto)]
+
 ghost use Rattle.std.specs.Prelude.{◌≡◌};
 ghost use Rattle.image_found.specs.declared.Checked.TheVariants.{Refused};
 ghost use Rattle.image_found.specs.Checked.{answered, numbered};
@@ -10,7 +12,7 @@ use meaning::{
 use table_answers::{done, refuse};
 
 // What the check finds: the layout of a sound image, or the refusal.
-#[derive(Drop)]
+#[derive(Clone, Copy)]
 pub enum Checked {
     Sound(Layout),
     Refused(Refusal),
@@ -19,7 +21,7 @@ pub enum Checked {
 // What is wrong with an image whose blocks all check and that no tree gives: another version, the
 // header, the strings, the counts of earlier ones or unused payload, the samples. The last two have
 // their lowest block.
-#[derive(Drop)]
+#[derive(Clone, Copy)]
 pub enum Fault {
     Version,
     Header,

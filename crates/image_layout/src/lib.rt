@@ -1,5 +1,7 @@
 // The layout of an image: which blocks hold what, by its version and the numbers of its nodes and
 // runs.
+#![tactic(auto)]
+
 ghost use Rattle.std.specs.Prelude.{◌≡◌, ◌+◌, ◌*◌, ◌-◌, ◌/◌, ◌≤◌, min};
 ghost use Rattle.meaning.specs.Image.{string_blocks};
 ghost use Rattle.theory.specs.Bounds.{most_block};
@@ -10,7 +12,7 @@ ghost use Rattle.image_layout.specs.Layout.{metres_at, layout_of};
 use meaning::WITH_METRES;
 
 // The block at which the metres of an image begin, if it has any: no metres are not 0 metres.
-#[derive(Drop)]
+#[derive(Clone, Copy)]
 pub enum MetresAt {
     Nowhere,
     From(u32),
@@ -18,7 +20,7 @@ pub enum MetresAt {
 
 // The nodes and runs of an image, the blocks at which R0, the samples of R1, those of R0 and the
 // metres begin, and the number of its blocks. The header is block 0, and R1 begins at block 1.
-#[derive(Drop)]
+#[derive(Clone, Copy)]
 pub struct Layout {
     pub nodes: u32,
     pub runs: u32,

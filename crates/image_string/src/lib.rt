@@ -1,4 +1,6 @@
 // One string of an image, in its blocks: a bit of it, bytes that are zero, laws of its ones.
+#![tactic(auto)]
+
 ghost use Rattle.std.specs.Prelude.{◌≡◌, ◌+◌, ◌*◌, ◌/◌, ◌%◌, ◌≤◌, ◌<◌, length};
 ghost use Rattle.theory.specs.Bounds.{most_block};
 ghost use Rattle.meaning.specs.Bytes.{bit_at, value};

@@ -1,4 +1,6 @@
 // The sums s and t of a block: one loop of wrapping additions over its 126 words.
+#![tactic(auto)]
+
 ghost use Rattle.std.specs.Prelude.{◌≡◌, ◌+◌, ◌≤◌, length, take, drop};
 ghost use Rattle.meaning.specs.Blocks.{sums, words};
 ghost use Rattle.image_sums.specs.Pair.{sums_of};
@@ -7,7 +9,7 @@ use image_words::word;
 use std::num::wrapping_add_u32;
 
 // The two sums of a block.
-#[derive(Drop)]
+#[derive(Clone, Copy)]
 pub struct Sums {
     pub s: u32,
     pub t: u32,

@@ -1,4 +1,6 @@
 // The words of an image, little-endian: reading and writing one.
+#![tactic(auto)]
+
 ghost use Rattle.std.specs.Prelude.{◌≡◌, ◌+◌, ◌%◌, ◌≤◌, length};
 ghost use Rattle.theory.specs.Layout.{word_at};
 ghost use Rattle.image_words.specs.Words.{with_word};

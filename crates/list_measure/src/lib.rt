@@ -1,4 +1,6 @@
 // The size and the depth of a listing, found level by level before anything is written.
+#![tactic(auto)]
+
 ghost use Rattle.std.specs.Prelude.{◌≡◌, ◌-◌, length};
 ghost use Rattle.meaning.specs.Image.{parents_in};
 ghost use Rattle.meaning.specs.Listing.{listing};
@@ -10,7 +12,7 @@ use image_layout::Layout;
 use nav_children::ones_before_zero;
 
 // What a listing takes: how many nodes it has, or the first node that it would have at depth 64.
-#[derive(Drop)]
+#[derive(Clone, Copy)]
 pub enum Measured {
     Fits(u32),
     TooDeep(u32),

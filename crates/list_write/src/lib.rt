@@ -1,4 +1,6 @@
 // A listing, written depth first by a function that calls itself on each child.
+#![tactic(auto)]
+
 ghost use Rattle.list_write.specs.Writing.{ToList, Listed};
 
 use nav_strings::{bit_r0, bit_r1};

@@ -1,9 +1,10 @@
 // What everything means (specs), and in code what a call answers, the codes and the limits.
+#![tactic(auto)]
 
 // A code, the place that goes with it, and two counts. On refusal the counts are 0; on code 0 the
 // place is 0.
 #[repr(C)]
-#[derive(Drop)]
+#[derive(Clone, Copy)]
 pub struct Answer {
     pub code: u32,
     pub place: u32,
@@ -12,7 +13,7 @@ pub struct Answer {
 }
 
 // Why a call is refused: a code and its place.
-#[derive(Drop)]
+#[derive(Clone, Copy)]
 pub struct Refusal {
     pub code: u32,
     pub place: u32,
@@ -20,7 +21,7 @@ pub struct Refusal {
 
 // What tests in the order of the table find: none of them holds, or the refusal of the first that
 // does.
-#[derive(Drop)]
+#[derive(Clone, Copy)]
 pub enum Verdict {
     Passed,
     Refused(Refusal),

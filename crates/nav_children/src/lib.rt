@@ -1,4 +1,6 @@
 // The parent and the children of a node of a checked image, and whether it is a leaf.
+#![tactic(auto)]
+
 ghost use Rattle.std.specs.Prelude.{◌≡◌, ◌+◌, ◌≤◌, pos};
 ghost use Rattle.meaning.specs.Bytes.{value};
 ghost use Rattle.meaning.specs.Image.{parents_in};
@@ -17,7 +19,7 @@ use nav_sibling_range::run_last;
 use nav_strings::{bit_r0, rank_r0, rank_r1, select_r0, select_r1};
 
 // The children of a node with children: the nodes after number `after`, up to number `last`.
-#[derive(Drop)]
+#[derive(Clone, Copy)]
 struct Children {
     after: usize,
     last: usize,

@@ -1,4 +1,6 @@
 // Whether a checked image has metres, and the metres of one of its nodes.
+#![tactic(auto)]
+
 ghost use Rattle.std.specs.Prelude.{◌≡◌};
 ghost use Rattle.meaning.specs.Parents.{entry};
 ghost use Rattle.meaning.specs.Image.{list_of, metres_in};

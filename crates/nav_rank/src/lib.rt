@@ -1,4 +1,6 @@
 // Rank in a string that lies in blocks: the ones left of a position, from the nearer block end.
+#![tactic(auto)]
+
 ghost use Rattle.std.specs.Prelude.{◌≡◌, ◌+◌, ◌*◌, ◌≤◌, ◌<◌, length};
 ghost use Rattle.theory.specs.Bounds.{most_block};
 ghost use Rattle.meaning.specs.Strings.{ones};

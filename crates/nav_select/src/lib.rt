@@ -1,4 +1,6 @@
 // Select in a string that lies in blocks: the position of a one, from the sample before it.
+#![tactic(auto)]
+
 ghost use Rattle.std.specs.Prelude.{◌≡◌, ◌+◌, ◌*◌, ◌≤◌, ◌<◌, length};
 ghost use Rattle.theory.specs.Bounds.{most_block};
 ghost use Rattle.meaning.specs.Strings.{ones};

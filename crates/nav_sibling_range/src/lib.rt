@@ -1,4 +1,6 @@
 // Where a run of siblings begins and ends: the ones of R1 on either side of a node.
+#![tactic(auto)]
+
 ghost use Rattle.std.specs.Prelude.{◌≡◌, ◌+◌, ◌≤◌};
 ghost use Rattle.theory.specs.Rank.{ones_left, position};
 ghost use Rattle.theory.specs.Stages.{read_r1};

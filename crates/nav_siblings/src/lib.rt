@@ -1,4 +1,6 @@
 // The siblings of a node of a checked image: next, previous, its rank, one some places away.
+#![tactic(auto)]
+
 ghost use Rattle.std.specs.Prelude.{◌≡◌, pos};
 ghost use Rattle.meaning.specs.Image.{parents_in};
 ghost use Rattle.meaning.specs.Questions.{answer, next_sibling, previous_sibling, rank, sibling};

@@ -1,4 +1,6 @@
 // The bits of R1 and R0 of a checked image, and rank and select in them.
+#![tactic(auto)]
+
 ghost use Rattle.std.specs.Prelude.{◌≡◌, ◌+◌, ◌≤◌};
 ghost use Rattle.meaning.specs.Bytes.{value};
 ghost use Rattle.theory.specs.Rank.{ones_left, position};

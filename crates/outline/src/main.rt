@@ -1,4 +1,6 @@
 // The outline program: reads an image, and prints its outline.
+#![tactic(auto)]
+
 use outline_page::outline;
 
 fn main() {

@@ -1,5 +1,7 @@
 // The heading of an outline, or a refusal, written into a lent buffer. Each function answers the
 // place after what it wrote.
+#![tactic(auto)]
+
 ghost use Rattle.std.specs.Prelude.{◌≤◌, length};
 ghost use Rattle.outline_text.specs.Text.{Puts};
 ghost use Rattle.outline_heading.specs.Lines.{heading, refusal};

@@ -1,5 +1,7 @@
 // The lines of the nodes of an outline, written into a lent buffer. Each function answers the place
 // after what it wrote.
+#![tactic(auto)]
+
 ghost use Rattle.std.specs.Prelude.{◌≡◌, ◌+◌, ◌≤◌, length, pos};
 ghost use Rattle.meaning.specs.Image.{parents_in, metres_in};
 ghost use Rattle.meaning.specs.Questions.{answer, degree};

@@ -1,4 +1,6 @@
 // The text of an outline: the counts of an image and a line for each node, or the refusal.
+#![tactic(auto)]
+
 ghost use Rattle.std.specs.Prelude.{◌≡◌, ◌≤◌, length};
 ghost use Rattle.meaning.specs.Answers.{written};
 ghost use Rattle.outline_page.specs.Outline.{outline_of};

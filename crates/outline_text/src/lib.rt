@@ -1,5 +1,7 @@
 // Text written into a lent buffer, from a place on. Each function answers the place after what it
 // wrote.
+#![tactic(auto)]
+
 ghost use Rattle.std.specs.Prelude.{◌++◌, ◌+◌, ◌≤◌, length};
 ghost use Rattle.outline_text.specs.Text.{Puts, decimal};
 

@@ -1,1 +1,2 @@
 // What splitting and joining promise of packs, strings of trees end to end; no code.
+#![tactic(auto)]

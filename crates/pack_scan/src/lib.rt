@@ -1,4 +1,6 @@
 // The trees of a pack scanned one after another, their first bits and node counts noted.
+#![tactic(auto)]
+
 ghost use Rattle.std.specs.Prelude.{◌≡◌, ◌≤◌, ◌*◌, length, set, take};
 ghost use Rattle.std.proofs.lemmas.List.Edits.{sets};
 ghost use Rattle.meaning.specs.Answers.{written};
@@ -31,7 +33,7 @@ pub fn hand_over(list: &[u32], k: usize, out: &mut [u32])
 }
 
 // What the bits of a pack hold: so many trees, or the bit at which they are refused.
-#[derive(Drop)]
+#[derive(Clone, Copy)]
 pub enum Pack {
     Trees(u32),
     Refused(u32),

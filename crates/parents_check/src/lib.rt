@@ -1,5 +1,7 @@
 // The check of a parent list: the lowest offending entry, and what a list that is written is
 // refused for.
+#![tactic(auto)]
+
 ghost use Rattle.std.specs.Prelude.{◌≡◌, ◌≤◌, length};
 ghost use Rattle.meaning.specs.Parents.{bad_entry};
 ghost use Rattle.meaning.specs.Answers.{first_holding};

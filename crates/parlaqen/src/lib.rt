@@ -1,5 +1,7 @@
 // The thirteen public calls, for C and Rust: include/parlaqen.h declares them. Each is one call of
 // its layer, with the same contract.
+#![tactic(auto)]
+
 ghost use Rattle.std.specs.Prelude.{◌≡◌};
 ghost use Rattle.meaning.specs.Answers.{came_to};
 ghost use Rattle.calls.specs.Calls.{string_of_parents, parents_of_string, image_of_parents, image_with_metres, parents_of_image, metres_of_image, check_image, ask_image, list_image, split_pack, join_pack, parents_of_text, text_of_parents};

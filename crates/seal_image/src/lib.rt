@@ -1,4 +1,6 @@
 // The image of a parent list and of its metres, if it has any: all payloads, and then the sums.
+#![tactic(auto)]
+
 ghost use Rattle.std.specs.Prelude.{◌≡◌, ◌+◌, ◌*◌, ◌≤◌, length};
 ghost use Rattle.meaning.specs.Answers.{written};
 ghost use Rattle.meaning.specs.Image.{version_of, metres_held, image_of_string};

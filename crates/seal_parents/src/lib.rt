@@ -1,5 +1,7 @@
 // The image of a parent list, with metres or without: its refusals, its layout, its room, and then
 // the image.
+#![tactic(auto)]
+
 ghost use Rattle.std.specs.Prelude.{◌≡◌, ◌*◌, length};
 ghost use Rattle.meaning.specs.Answers.{came_to};
 ghost use Rattle.meaning.specs.Image.{version_of, metres_held};

@@ -1,4 +1,6 @@
 // R1 and its samples, written into an image: a one where a run of ones ends.
+#![tactic(auto)]
+
 ghost use Rattle.std.specs.Prelude.{◌≡◌, ◌+◌, ◌*◌, ◌/◌, ◌≤◌, length};
 ghost use Rattle.theory.specs.Bounds.{most_block};
 ghost use Rattle.meaning.specs.Image.{string_blocks};

@@ -1,4 +1,6 @@
 // The bits of R1 from a parent list, a one where an entry differs from the next; their number.
+#![tactic(auto)]
+
 ghost use Rattle.std.specs.Prelude.{◌≡◌, ◌+◌, ◌<◌, ◌≤◌, length, get_or, drop};
 ghost use Rattle.meaning.specs.Bytes.{number, value};
 ghost use Rattle.meaning.specs.Parents.{bad_entry};

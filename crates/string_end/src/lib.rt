@@ -1,4 +1,6 @@
 // Where a tree ends or is refused: a labelled loop over bytes and bits.
+#![tactic(auto)]
+
 ghost use Rattle.std.specs.Prelude.{◌≡◌, ◌+◌, ◌-◌, ◌*◌, ◌/◌, ◌<◌, ◌≤◌, length};
 ghost use Rattle.meaning.specs.Bytes.{bits_from};
 ghost use Rattle.string_end_laws.specs.Ends.{tree_end};
@@ -8,7 +10,7 @@ use string_skip::{ScanState, skip_bytes};
 
 // Where the tree that starts after `at` bits ends: the bits read by then and its nodes; or the bit
 // at which it is refused.
-#[derive(Drop)]
+#[derive(Clone, Copy)]
 pub enum TreeEnd {
     Over { next: usize, size: usize },
     Refused(usize),

@@ -1,5 +1,7 @@
 // How many bytes of a word a tree passes over, with so many nodes pending. Each byte is a lane of
 // the word, and what is counted is counted in all eight lanes at once.
+#![tactic(auto)]
+
 ghost use Rattle.std.specs.Prelude.{◌≡◌, ◌+◌, ◌-◌, ◌/◌, ◌^◌, ◌<◌};
 ghost use Rattle.std.specs.Int.Bits.{bit_and};
 ghost use Rattle.bits_lanes.specs.Lanes.{each, ones_earlier};
@@ -9,7 +11,7 @@ ghost use Rattle.string_pass.specs.Passes.{Passes};
 use bits_lanes::count_lanes;
 
 // The first bytes of a word that are passed over, and how many of their bits are one.
-#[derive(Drop)]
+#[derive(Clone, Copy)]
 pub struct Passed {
     pub bytes: usize,
     pub opened: usize,

@@ -1,1 +1,2 @@
 // What the two calls of tree strings promise; no code.
+#![tactic(auto)]

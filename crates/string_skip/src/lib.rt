@@ -1,4 +1,6 @@
 // Bytes of a tree string passed over, where no bit of theirs can end the tree.
+#![tactic(auto)]
+
 ghost use Rattle.std.specs.Prelude.{◌≡◌, ◌+◌, ◌-◌, ◌*◌, ◌/◌, ◌<◌, ◌≤◌, length};
 ghost use Rattle.bits_word.specs.Little.{little};
 ghost use Rattle.string_skip.specs.Strides.{ReadOn, Stands};
@@ -9,7 +11,7 @@ use string_pass::bytes_passed;
 
 // Where the reading of a tree is before a byte: the bytes before it, the nodes that are pending
 // besides the one that is read, and the nodes that are still allowed.
-#[derive(Drop)]
+#[derive(Clone, Copy)]
 pub struct ScanState {
     pub at: usize,
     pub pending: usize,

@@ -1,4 +1,6 @@
 // The string of a parent list, written after the first bits of a lent buffer.
+#![tactic(auto)]
+
 ghost use Rattle.std.specs.Prelude.{◌≡◌, ◌+◌, ◌*◌, ◌≤◌, length};
 ghost use Rattle.meaning.specs.Parents.{bad_entry};
 ghost use Rattle.meaning.specs.Strings.{string_of};

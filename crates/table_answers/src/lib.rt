@@ -1,4 +1,6 @@
 // Answers and verdicts made: a refusal, code 0 with its counts, a row by itself, the upper of two.
+#![tactic(auto)]
+
 ghost use Rattle.std.specs.Prelude.{◌≡◌};
 ghost use Rattle.meaning.specs.Answers.{◌at◌when◌, alone, counts, over, refused_with};
 

@@ -1,4 +1,6 @@
 // Code 2: the sizes of packs that are split, of packs and trees that are joined, of images.
+#![tactic(auto)]
+
 ghost use Rattle.table_sizes.specs.ToSplit.{SplitSizes};
 ghost use Rattle.table_sizes.specs.ToJoin.{JoinSizes};
 ghost use Rattle.table_sizes.specs.ToCheck.{ImageSize};

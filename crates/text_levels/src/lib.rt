@@ -1,4 +1,6 @@
 // Where each level of a parent list begins, found in one walk along the list.
+#![tactic(auto)]
+
 ghost use Rattle.std.specs.Prelude.{◌≡◌, ℕ, ◌≤◌, ◌<◌, get_or, length};
 ghost use Rattle.meaning.specs.Trees.{Tree};
 ghost use Rattle.meaning.specs.Parents.{IsParents, parents};

@@ -1,5 +1,7 @@
 // A text read from left to right: a node holds a list of nodes and a list holds nodes, and the
 // nodes of each level are counted on the way.
+#![tactic(auto)]
+
 ghost use Rattle.std.specs.Prelude.{◌≡◌, ◌≤◌, ◌<◌, length, get_or};
 ghost use Rattle.meaning.specs.Text.{is_blank};
 ghost use Rattle.text_nesting.specs.Nesting.{AfterBlanks, Ready, NodeRead, ListRead, TextRead};
@@ -15,7 +17,7 @@ const CARRIAGE_RETURN: u8 = 13;
 
 // What a reading comes to: the number, from 0, of the byte after what was read; or the byte, from
 // 1, at which the text cannot be continued, or which opens a level too many.
-#[derive(Drop)]
+#[derive(Clone, Copy)]
 pub enum Found {
     Over(usize),
     Broken(usize),

@@ -1,4 +1,6 @@
 // The nodes of a text numbered level by level, and the parent of each written at its number.
+#![tactic(auto)]
+
 ghost use Rattle.std.specs.Prelude.{◌≡◌, ℕ, ◌≤◌, ◌<◌, get_or, length};
 ghost use Rattle.meaning.specs.Brackets.{tree_in};
 ghost use Rattle.meaning.specs.Text.{brackets_in};

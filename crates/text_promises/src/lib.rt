@@ -1,1 +1,2 @@
 // What the two calls of parenthesis text promise; no code.
+#![tactic(auto)]

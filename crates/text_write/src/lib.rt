@@ -1,4 +1,6 @@
 // The brackets of a tree written from its parent list, by one cursor a level.
+#![tactic(auto)]
+
 ghost use Rattle.std.specs.Prelude.{◌≡◌};
 ghost use Rattle.meaning.specs.Brackets.{bracketing};
 ghost use Rattle.meaning.specs.Text.{text_of};

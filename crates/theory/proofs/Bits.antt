@@ -59,7 +59,9 @@ Parsed c bs ds = Done c ds × (unary ds ≡ bs)
 
 parsed_bump : (c : ℕ) (bs : List Bit) (ds : List ℕ) → Parsed (suc (suc c)) bs ds → Parsed (suc c) (I ∷ bs) (bump ds)
 parsed_bump c bs [] h = absurd h.0
-parsed_bump c bs (d ∷ ds) h = (rw (suc-add, ← add-suc) at h.0, ap (λ r. I ∷ r) h.1)
+parsed_bump c bs (d ∷ ds) h =
+    let e : suc c + d ≡ c + suc d = omega arith in
+    (subst (λ n. Done n ds) e h.0, ap (λ r. I ∷ r) h.1)
 
 pub parsed : (c : ℕ) (bs : List Bit) → Over c bs → Parsed c bs (degrees_of bs)
 parsed zero [] h = (tt, refl)

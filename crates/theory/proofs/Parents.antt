@@ -59,7 +59,9 @@ fits_nones (suc k) h = cast_fit (omega arith) refl (fits-none (fits_nones k (cas
 -- one more child of the first node
 fits_more : {c x : ℕ} {ps : List ℕ} (ds : List ℕ) → Fits (suc (suc c)) x ps ds → Fits (suc c) x (x ∷ ps) (bump ds)
 fits_more [] h = absurd h.done
-fits_more {x} (d ∷ ds) h = record { done = rw (suc-add, ← add-suc) at h.done; gives = ap (λ r. x ∷ r) h.gives }
+fits_more {c} {x} (d ∷ ds) h =
+    let e : suc c + d ≡ c + suc d = omega arith in
+    record { done = subst (λ n. Done n ds) e h.done; gives = ap (λ r. x ∷ r) h.gives }
 
 fits-end : (c x : ℕ) → Fits c x [] (replicate c 0)
 fits-end zero x = record { done = tt; gives = refl }

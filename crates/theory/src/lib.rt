@@ -1,1 +1,2 @@
 // Theorems about the definitions of `meaning`; no code.
+#![tactic(auto)]

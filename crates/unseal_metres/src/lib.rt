@@ -1,4 +1,6 @@
 // The metres of an image, copied out of it block by block.
+#![tactic(auto)]
+
 ghost use Rattle.std.specs.Prelude.{◌≡◌, ◌+◌, ◌*◌, ◌≤◌, length};
 ghost use Rattle.meaning.specs.Answers.{written};
 ghost use Rattle.meaning.specs.Image.{word_blocks, numbers_in};
