@@ -1,0 +1,19 @@
+use mathlib.Core.Path.{◌≡◌, ap₂, ◌∙◌}
+use mathlib.Core.List.{[], ◌∷◌}
+use Prim.Native.Nat.{◌-◌, ◌/◌, ◌%◌, ◌^◌}
+use native.Mathlib.Omega.{arith}
+use borrow.Author.Rules.{rules}
+use lib.Bits.{bit_and, and_le_r}
+use lib.ListN.{get_or}
+use Rattle.bits_byte.proofs.Values.{digit_value}
+use Rattle.bits_byte.proofs.bit_of.Goals as goal
+
+pub overflow_cast-result-2 : goal.overflow_cast-result-2
+overflow_cast-result-2 c = omega (arith, and_le_r (c.args.x / 2 ^ (7 - c.args.j)) 1)
+
+pub returns : goal.returns
+returns c =
+    let x = c.args.x in
+    let j = c.args.j in
+    ap₂ (λ q r. bit_and (get_or (x ∷ []) q 0 / 2 ^ (7 - r)) 1) (let e : 0 ≡ j / 8 = omega arith in e) (let e : j ≡ j % 8 = omega arith in e)
+    ∙ digit_value (x ∷ []) j
