@@ -222,8 +222,8 @@ by_cases : {X : Type 0} (b : Bool) → (b ≡ true → X) → (b ≡ false → X
 by_cases true f g = f refl
 by_cases false f g = g refl
 
-not_true : (b : Bool) → (b ≡ true → ⊥) → not b ≡ true
-not_true b n = by_cases b (λ e. absurd (n e)) (λ e. ap not e)
+not-true : (b : Bool) → (b ≡ true → ⊥) → not b ≡ true
+not-true b n = by_cases b (λ e. absurd (n e)) (λ e. ap not e)
 
 -- ---- 11, 12, 13
 
@@ -257,7 +257,7 @@ header_named bytes checks = (
       (is_known (header_word bytes 0) g.0.0, λ c h. true≢false (sym g.1 ∙ ap not (has-header bytes checks c h))),
   λ w. (given12 bytes checks 0).1 (
     (known_in (header_word bytes 0) w.0, tt),
-    not_true (is_header bytes) (λ e. let x = header-tree bytes checks w.0 e in w.1 x.0 x.1),
+    not-true (is_header bytes) (λ e. let x = header-tree bytes checks w.0 e in w.1 x.0 x.1),
     refl,
   ),
 )
@@ -274,7 +274,7 @@ strings_named bytes checks = (
       let r = has-header bytes checks c w.0.1 in
       (given13 bytes checks 1).1 (
         (known_in (header_word bytes 0) v, (ap not r, tt)),
-        not_true (are_strings bytes) (λ e. let x = strings-tree bytes checks v r e in w.1 x.0 x.1),
+        not-true (are_strings bytes) (λ e. let x = strings-tree bytes checks v r e in w.1 x.0 x.1),
         refl,
       ),
 )

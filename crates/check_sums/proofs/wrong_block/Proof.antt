@@ -1,7 +1,7 @@
 -- `check_sums::wrong_block` meets its contract.
 use mathlib.Core.Path.{◌≡◌, sym, ◌∙◌}
 use Prim.Native.Nat.{◌-◌, ◌≤◌}
-use borrow.Author.Tests.{not_true, not-false}
+use borrow.Author.Tests.{not-true, not-false}
 use native.Mathlib.Omega.{arith}
 use Rattle.meaning.specs.Blocks.{wrong_block}
 use Rattle.check_sums.proofs.Checking.{wrong_after, wrong_all, wrong_here, wrong_later, wrong_none}
@@ -26,7 +26,7 @@ returns : tie.Need-returns invariant-loop decreases-loop
 returns c =
     let l = c.before.before.before in
     let a = l.before.before.args in
-    wrong_here a.b.now a.blocks l.loop.i (omega arith) (sym c.before.sums-right.ensures ∙ not_true _ c.if1.true) ∙ l.loop.invariant.1
+    wrong_here a.b.now a.blocks l.loop.i (omega arith) (sym c.before.sums-right.ensures ∙ not-true _ c.if1.true) ∙ l.loop.invariant.1
 
 add-i : tie.Need-overflow-add-i invariant-loop decreases-loop
 add-i c = omega arith

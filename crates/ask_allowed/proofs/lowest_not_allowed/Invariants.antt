@@ -1,0 +1,14 @@
+use Prim.Native.Nat.{◌*◌, ◌-◌, ◌≤◌}
+use mathlib.Core.Path.{◌≡◌, refl, sym, ◌∙◌}
+use borrow.Author.Tests.{not-true, not-false}
+use native.Mathlib.Omega.{arith}
+use lib.ListN.{drop}
+use Rattle.meaning.specs.Questions.{questions, not_allowed}
+use Rattle.ask_allowed.proofs.Turns.{bad-end, bad-here, bad-next}
+use Rattle.ask_allowed.proofs.lowest_not_allowed.Given as goal
+
+abbrev pub invariant-loop-i : goal.invariant-loop-i
+invariant-loop-i l = (l.i ≤ l.count) × (not_allowed l.n l.metres (questions l.asked) 0 ≡ not_allowed l.n l.metres (questions (drop (3 * l.i) l.asked)) l.i)
+
+abbrev pub decreases-loop-i : goal.decreases-loop-i
+decreases-loop-i l = l.count - l.i
