@@ -1,0 +1,12 @@
+use borrow.Author.Rules.{rules}
+use lib.Bits.{and_le_l}
+use Rattle.bits_count.proofs.Words.{without-ones}
+use Rattle.bits_count.proofs.ones_without.Goals as goal
+
+pub overflow_sub-result : goal.overflow_sub-result
+overflow_sub-result c = and_le_l c.stored_word-x.result c.stored_word.result
+
+pub returns : goal.returns
+returns c =
+    without-ones c.args.b.now c.args.at c.args.other c.stored_word-x.result
+    c.stored_word.result c.stored_word-x.ensures c.stored_word.ensures

@@ -1,0 +1,16 @@
+use Prim.Native.Nat.{◌+◌, ◌-◌, ◌≤◌}
+use lib.ListN.{drop}
+use mathlib.Core.Path.{◌≡◌, refl, sym, ◌∙◌, ap}
+use Rattle.meaning.specs.Strings.{R1, string_of}
+use Rattle.meaning.specs.Bytes.{number}
+use native.Mathlib.Omega.{arith}
+use Rattle.parents_check.proofs.Rising.{good_parents}
+use Rattle.seal_r1_bits.proofs.Entries.{end_inner, shifted, shifted_small}
+use borrow.Author.Rules.{rules}
+use Rattle.seal_r1_bits.proofs.inner_r1_byte.Given as goal
+
+abbrev pub invariant-loop-j : goal.invariant-loop-j
+invariant-loop-j l = (l.j ≤ 8) × (l.x ≡ number l.j (drop l.i (R1 (string_of l.ps))))
+
+abbrev pub decreases-loop-j : goal.decreases-loop-j
+decreases-loop-j l = 8 - l.j
