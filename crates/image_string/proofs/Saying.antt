@@ -1,6 +1,6 @@
 -- What a test tells, used and passed on.
 use mathlib.Core.Path.{◌≡◌, refl}
-use mathlib.Core.Bool.{Bool, true, false, not}
+use mathlib.Core.Bool.{Bool, true, false}
 use Prim.Native.Nat.{ℕ}
 use native.Mathlib.Omega.{arith}
 use borrow.Author.Tests.{eqb-true, eq-eqb}
@@ -19,11 +19,11 @@ decides_same true P Q there back s = there s
 decides_same false P Q there back s = λ q. s (back q)
 
 -- `if !t { return .. }` passed
-pub decides_held : (t : Bool) (P : Type 0) → Decides t P → not t ≡ false → P
+pub decides_held : (t : Bool) (P : Type 0) → Decides t P → t ≡ true → P
 decides_held true P s e = s
 decides_held false P s e = let z : ◌≡◌ {A = ℕ} 0 1 = cc in absurd (omega arith)
 
 -- and taken
-pub decides_missed : (t : Bool) (P : Type 0) → Decides t P → not t ≡ true → P → ⊥
+pub decides_missed : (t : Bool) (P : Type 0) → Decides t P → t ≡ false → P → ⊥
 decides_missed false P s e = s
 decides_missed true P s e = let z : ◌≡◌ {A = ℕ} 0 1 = cc in absurd (omega arith)

@@ -1,0 +1,17 @@
+use mathlib.Core.Path.{◌≡◌}
+use Prim.Native.Nat.{◌+◌, ◌-◌, ◌*◌, ◌≤◌}
+use native.Mathlib.Omega.{arith}
+use Rattle.meaning.specs.Strings.{ones}
+use Rattle.meaning.specs.Bytes.{bits_from}
+use Rattle.bits_byte.proofs.Values.{value-le}
+use Rattle.check_runs_words.specs.Steps.{StepAt}
+use Rattle.bits_count.proofs.Runs.{bits-ones-le, bits-next}
+use Rattle.check_runs_words.proofs.BytesStepping.{step-none, step-bit}
+use Rattle.check_runs_words.proofs.bits_in_step.Given as goal
+
+abbrev pub invariant-loop-i : goal.invariant-loop-i
+invariant-loop-i l =
+    (l.i ≤ l.n) × (l.before1 ≡ l.ones1 + ones (bits_from l.b (8 * l.at1) l.i)) × (l.before0 ≡ l.ones0 + ones (bits_from l.b (8 * l.at0) l.i)) × StepAt l.b l.at1 l.at0 l.i l.ones1 l.ones0
+
+abbrev pub decreases-loop-i : goal.decreases-loop-i
+decreases-loop-i l = l.n - l.i

@@ -1,0 +1,14 @@
+use mathlib.Core.Path.{◌≡◌, ap, ap₂, ◌∙◌}
+use Prim.Native.Nat.{◌+◌, ◌-◌, ◌*◌, ◌≤◌}
+use native.Mathlib.Omega.{arith}
+use Rattle.meaning.specs.Strings.{ones}
+use Rattle.meaning.specs.Bytes.{bits_from}
+use Rattle.bits_count.proofs.Runs.{no_bits, bits-ones-le}
+use Rattle.nav_rank.proofs.Counts.{word_more}
+use Rattle.nav_rank.proofs.ones_in_words.Given as goal
+
+abbrev pub invariant-loop-i : goal.invariant-loop-i
+invariant-loop-i l = (l.i ≤ l.k) × (l.count ≡ ones (bits_from l.b (8 * l.at) (64 * l.i)))
+
+abbrev pub decreases-loop-i : goal.decreases-loop-i
+decreases-loop-i l = l.k - l.i
