@@ -53,6 +53,6 @@ returns c =
     let b = a.b.now in
     let h = lasts b a.zeros a.n c.requires.in_runs in
     let l = length-string_in b 1 0 (a.n - 1) in
-    parents-written (string_in b 1 0 (a.n - 1)) (string_in b a.zeros 0 a.n) h.marks a.n f.result a.out.now f.new.out.0 (omega arith)
+    parents-written (string_in b 1 0 (a.n - 1)) (string_in b a.zeros 0 a.n) h.marks a.n f.result a.out.now f.new.out (omega arith)
     (length-string_in b a.zeros 0 a.n) (omega arith) f.auto.out h.runs1 h.runs0 f.ensures _ c.spread_string.ensures
     ∙ ap₂ (λ r1 r0. written (parents_of (woven r1 r0)) a.out.now) (sym h.last1) (sym h.last0)

@@ -1,0 +1,17 @@
+use mathlib.Core.Path.{◌≡◌, sym, ap, ◌∙◌}
+use Prim.Native.Nat.{ℕ, ◌+◌, ◌-◌, ◌*◌, ◌≤◌, ◌<◌}
+use native.Mathlib.Omega.{arith}
+use borrow.Author.Count.{below_more}
+use Rattle.theory.specs.Layout.{sample_place, word_at}
+use Rattle.bits_count.proofs.Runs.{bits-ones-le}
+use Rattle.image_string.proofs.Saying.{decides_held, decides_missed}
+use Rattle.check_sample.specs.Words.{bits_in, NamesOne}
+use Rattle.check_counts_and_samples.proofs.Numbering.{NumberSampled, number-named, piece_named, none_before, numbers_piece}
+use Rattle.check_counts_and_samples.proofs.each_sampled.Given as goal
+
+abbrev pub invariant-loop-s : goal.invariant-loop-s
+invariant-loop-s l =
+    (l.k ≤ 64 * l.s) × (64 * l.s < l.end + 64) × (l.p ≡ sample_place l.samples l.s) × (l.end ≤ l.k + 4000) × ((q : ℕ) → q < l.s → NumberSampled l.b l.samples l.piece.at (bits_in l.piece) l.piece.first l.k q)
+
+abbrev pub decreases-loop-s : goal.decreases-loop-s
+decreases-loop-s l = l.end - 64 * l.s

@@ -1,0 +1,13 @@
+use mathlib.Core.Path.{◌≡◌, ◌∙◌}
+use Prim.Native.Nat.{◌+◌, ◌-◌, ◌*◌, ◌≤◌, ◌<◌}
+use native.Mathlib.Omega.{arith}
+use Rattle.image_string.specs.Parts.{ones_to}
+use Rattle.image_string.proofs.Ones.{ones_to_mono}
+use Rattle.nav_rank.proofs.Counts.{next-end}
+use Rattle.nav_select_in_block.proofs.block_of.Given as goal
+
+abbrev pub invariant-loop-i : goal.invariant-loop-i
+invariant-loop-i l = (l.j ≤ l.i) × (l.i ≤ l.last) × (ones_to l.b l.bits_block (4000 * l.i) < l.k)
+
+abbrev pub decreases-loop-i : goal.decreases-loop-i
+decreases-loop-i l = l.last - l.i

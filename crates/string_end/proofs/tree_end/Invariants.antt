@@ -1,0 +1,27 @@
+use Prim.Native.Nat.{ℕ, ◌+◌, ◌-◌, ◌*◌, ◌/◌, ◌%◌, ◌^◌, ◌≤◌, ◌<◌}
+use mathlib.Core.Path.{◌≡◌, refl, sym, ap, ◌∙◌}
+use borrow.Author.Rules.{rules}
+use native.Mathlib.Omega.{arith}
+use mathlib.Core.Logic.{⊎_elim}
+use lib.Bits.{bit_and}
+use lib.ListN.{get_or}
+use Rattle.meaning.specs.Bytes.{value, bit_at}
+use Rattle.string_end.specs.Ends.{end_of}
+use Rattle.string_end.specs.declared.TreeEnd.TheVariants.{Refused}
+use Rattle.string_end_laws.proofs.Steps.{Open, open_first, open_none, open_few, open_skip, open_wrong, open_over, open_full, open_on, byte_bit, value-le}
+use Rattle.string_skip.proofs.Whole.{all_at_once}
+use Rattle.string_end.proofs.tree_end.Given as goal
+
+abbrev pub invariant-loop-p : goal.invariant-loop-p
+invariant-loop-p l =
+    (l.initial.p ≤ l.p) × (l.p ≤ l.stop) × (l.initial.p < l.stop) × (l.stop ≤ l.n) × (l.stop ≤ 8 * (l.initial.p / 8) + 8) × (l.byte ≡ get_or l.b (l.initial.p / 8) 0)
+    × (l.end ≡ Refused (l.n + 1)) × Open l.b l.n l.at l.p l.pending l.room
+
+abbrev pub decreases-loop-p : goal.decreases-loop-p
+decreases-loop-p l = l.stop - l.p
+
+abbrev pub invariant-tree : goal.invariant-tree
+invariant-tree l = (l.p ≤ l.n) × (l.end ≡ Refused (l.n + 1)) × Open l.b l.n l.at l.p l.pending l.room
+
+abbrev pub decreases-tree : goal.decreases-tree
+decreases-tree l = l.n - l.p
