@@ -1,12 +1,16 @@
 # The constants: no table is in the library's code, and its archive has just the constants of tests/constants.txt.
+# The library's code is that of parlaqen_c, which exports the calls for C, and of every crate that it needs.
 # Where other code has other ones, and none of them is a table, `tools/constants >tests/constants.txt` stores these.
 
-code_of_library() { # FOLDER: the files of parlaqen and of every crate that it needs, by FOLDER/crates.txt, a line each
+code_of_library() { # FOLDER: the files of parlaqen_c and of every crate that it needs, by FOLDER/crates.txt, a line each
     awk -F: '
         { sub(/#.*/, "") }
-        NF == 2 { needs[$1] = $2 }
+        NF == 2 {
+            sub(/ .*/, "", $1) # what may stand after the name says how it is built
+            needs[$1] = $2
+        }
         END {
-            crate[crates = 1] = "parlaqen"
+            crate[crates = 1] = "parlaqen_c"
             for (i = 1; i <= crates; i++) {
                 print crate[i]
                 needed = split(needs[crate[i]], name, " ")
@@ -41,18 +45,21 @@ tables=$(tables_in "${files[@]}")
 [ -z "$tables" ] || fail "constants: the library is to have no table: ${tables//"$root/"/}"
 passed "constants: in the library's ${#files[@]} files of code each one is a number"
 
-# a library of three crates with tables in every form, and a program with one, which the library does not need
-mkdir -p tables/crates/{lowest,between,parlaqen,program}/src
-cat >tables/crates.txt <<'CRATES'
+# a library of three crates with tables in every form, and a program with one, which the library does not need: outside
+# the checkout, where rt ci takes no second crates.txt and no code without a crate
+away=$(mktemp -d)
+mkdir -p "$away"/tables/crates/{lowest,between,parlaqen_c,program}/src
+cat >"$away/tables/crates.txt" <<'CRATES'
 # lowest, between: what the library needs
 lowest:
 between: lowest
-# parlaqen, program: the library, and a program
-parlaqen: between
-program: parlaqen lowest
+# parlaqen_c, program: the library, and a program
+parlaqen_c staticlib: between
+program: between lowest
 CRATES
-echo 'const TABLE: [u8; 2] = [1, 2];' | tee tables/crates/program/src/main.rt >tables/crates/between/src/lib.rt
-cat >tables/crates/lowest/src/lib.rt <<'CODE'
+echo 'const TABLE: [u8; 2] = [1, 2];' |
+    tee "$away/tables/crates/program/src/main.rt" >"$away/tables/crates/between/src/lib.rt"
+cat >"$away/tables/crates/lowest/src/lib.rt" <<'CODE'
 // const TABLE: [u8; 2] is a comment
 pub const NUMBER: u32 = 1;
 const FLAG: bool = true;
@@ -79,9 +86,13 @@ tables/crates/lowest/src/lib.rt:13: BYTES: &[u8]
 tables/crates/lowest/src/lib.rt:14: INSIDE: [u8; 1]
 tables/crates/lowest/src/lib.rt:15: WRITABLE: [i64; 1]
 TABLES
-code_of_library tables >code.txt
-mapfile -t files <code.txt
-tables_in "${files[@]}" | diff -u tables-wanted.txt - || fail "constants: tables in code are not seen as they are"
+(
+    cd "$away" || exit 1
+    mapfile -t files < <(code_of_library tables)
+    tables_in "${files[@]}"
+) >tables.txt
+rm -r "$away"
+diff -u tables-wanted.txt tables.txt || fail "constants: tables in code are not seen as they are"
 passed "constants: tables of eight forms are seen in a library's code, and one of a program is let be"
 
 status=0

@@ -114,7 +114,7 @@ refused_for_size() { # MACHINE COMMAND..: compiling for MACHINE ends with the se
 
 # the compiler of the Rattle toolchain knows other machines than this one; gcc's own folder has the two headers, without
 # a C library
-for_machine=("$(dirname "$(rt doc)")/../on/$(uname -m)/toolchain/bin/clang" -ffreestanding -nostdinc
+for_machine=("$(dirname "$(rt doc)")/toolchain/bin/clang" -ffreestanding -nostdinc
     -isystem "$(gcc -print-file-name=include)" -I"$root/include" -std=c11 -Wall -Wextra -Werror -fsyntax-only alone.c)
 for machine in x86_64-linux-gnu aarch64-linux-gnu riscv64-linux-gnu; do "${for_machine[@]}" --target=$machine; done
 for machine in i686-linux-gnu x86_64-linux-gnux32 arm-linux-gnueabi riscv32-linux-gnu; do

@@ -1,4 +1,4 @@
-# The outline program, which `rt check outline` makes: what it prints of good input and of bad.
+# The outline program, which `rt ci` makes, and `rt run` in its folder: what it prints of good input and of bad.
 
 outline_says() { # WHAT TEXT: of WHAT, which is on standard input, the program prints TEXT
     local text

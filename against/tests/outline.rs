@@ -179,8 +179,8 @@ fn inputs() -> Vec<(String, Vec<u8>)> {
 
 #[test]
 fn outline_prints_what_the_model_prints() {
-    let program = root().join("target/bin/outline");
-    assert!(program.is_file(), "target/bin/outline is missing: `rt check outline` makes it");
+    let program = root().join("crates/outline/out/outline");
+    assert!(program.is_file(), "{} is missing: `rt ci` makes it, and `rt run` in crates/outline", program.display());
     let inputs = inputs();
     for (name, input) in &inputs {
         let (program, model) = (printed(input), outline(input));

@@ -1,4 +1,4 @@
-// A program that runs a script of cases through the exported calls and prints what comes back.
+// A program that runs a script of cases through the public calls and prints what comes back.
 // It reads the script: each line is a word and numbers (crate `cases_script`); a line that begins
 // with no such word is a remark. A tree, metres of its nodes, and bytes in hand (a string, a pack,
 // an image or a text), stay from line to line. Each line is printed, and below it what the public
@@ -7,9 +7,13 @@
 // that every script is safe to run.
 #![tactic(auto)]
 
+ghost use Rattle.std.specs.Prelude.{◌≤◌, length, IfOk};
+
 use cases_script::{Word, number, room, signed, size};
 use cases_show::Digest;
 use meaning::Answer;
+use std::io;
+use std::io::Read;
 use std::num::wrapping_add_u32;
 
 fn call_bytes(
@@ -28,9 +32,16 @@ fn call_bytes(
     }
 }
 
-fn make_in(word: Word, numbers: &[u32], parents: &[u32], metres: &[u32], list: &mut [u8]) {
-    cases_show::answered(call_bytes(word, numbers, parents, metres, list));
-    cases_show::bytes(list);
+fn make_in(
+    rt: &impl Print,
+    word: Word,
+    numbers: &[u32],
+    parents: &[u32],
+    metres: &[u32],
+    list: &mut [u8],
+) -> io::Result<()> {
+    cases_show::answered(rt, call_bytes(word, numbers, parents, metres, list))?;
+    cases_show::bytes(rt, list)
 }
 
 // encode NODES ROOM             the tree's string, in hand
@@ -38,18 +49,26 @@ fn make_in(word: Word, numbers: &[u32], parents: &[u32], metres: &[u32], list: &
 // survey NODES ROOM METRES      the tree's image with so many of the metres, in hand
 // text NODES ROOM               the tree's text, in hand
 // join NODES ROOM BITS TREES    the tree's string after the pack in hand
-fn make(word: Word, numbers: &[u32], parents: &[u32], metres: &[u32], bytes: &mut [u8]) {
+fn make(
+    rt: &impl Print,
+    word: Word,
+    numbers: &[u32],
+    parents: &[u32],
+    metres: &[u32],
+    bytes: &mut [u8],
+) -> io::Result<()> {
     let n = room(numbers, 0, parents.len());
     let m = room(numbers, 1, bytes.len());
     let k = room(numbers, 2, metres.len());
     cases_script::alter(word, numbers, bytes);
     make_in(
+        rt,
         word,
         numbers,
         &parents[0..n],
         &metres[0..k],
         &mut bytes[0..m],
-    );
+    )
 }
 
 // Has every question ask about one node.
@@ -70,7 +89,7 @@ fn after_answers(before: Digest, image: &[u8], asked: &[i32]) -> Digest {
 // nodes BYTES FIRST NODES NUMBER..    26 questions about each of so many nodes, in place of the one
 //                                     that they name, with room for 27 answers: all these lists in
 //                                     sum
-fn nodes(numbers: &[u32], image: &[u8]) {
+fn nodes(rt: &impl Print, numbers: &[u32], image: &[u8]) -> io::Result<()> {
     let mut asked = [0i32; 78];
     let mut d = Digest {
         nines: 0,
@@ -82,7 +101,7 @@ fn nodes(numbers: &[u32], image: &[u8]) {
         name_node(&mut asked, signed(wrapping_add_u32(number(numbers, 1), i)));
         d = after_answers(d, image, &asked);
     }
-    cases_show::summed(d);
+    cases_show::summed(rt, d)
 }
 
 fn ask(numbers: &[u32], image: &[u8], list: &mut [u32]) -> Answer {
@@ -103,19 +122,20 @@ fn call_words(word: Word, numbers: &[u32], bytes: &[u8], list: &mut [u32]) -> An
 }
 
 fn read_in(
+    rt: &impl Print,
     word: Word,
     numbers: &[u32],
     parents: &[u32],
     metres: &[u32],
     bytes: &[u8],
     list: &mut [u32],
-) {
-    cases_show::answered(call_words(word, numbers, bytes, list));
-    cases_show::words(list);
+) -> io::Result<()> {
+    cases_show::answered(rt, call_words(word, numbers, bytes, list))?;
+    cases_show::words(rt, list)?;
     match word {
-        Word::Unseal | Word::Untext => cases_show::equal(parents, list),
-        Word::Distances => cases_show::equal(metres, list),
-        _ => {}
+        Word::Unseal | Word::Untext => cases_show::equal(rt, parents, list),
+        Word::Distances => cases_show::equal(rt, metres, list),
+        _ => Ok(()),
     }
 }
 
@@ -125,88 +145,137 @@ fn read_in(
 // distances BYTES ROOM          the metres of the image, and how many of them are those in hand
 // ask BYTES ROOM NUMBER..       questions to the image
 // list BYTES ROOM NODE          the listing from a node
-fn read(word: Word, numbers: &[u32], parents: &[u32], metres: &[u32], bytes: &[u8]) {
+fn read(
+    rt: &impl Print,
+    word: Word,
+    numbers: &[u32],
+    parents: &[u32],
+    metres: &[u32],
+    bytes: &[u8],
+) -> io::Result<()> {
     let mut list = [9u32; 65536];
     let n = room(numbers, 1, 65536);
-    read_in(word, numbers, parents, metres, bytes, &mut list[0..n]);
+    read_in(rt, word, numbers, parents, metres, bytes, &mut list[0..n])
 }
 
-fn split_in(numbers: &[u32], pack: &[u8], starts: &mut [u32], sizes: &mut [u32]) {
-    cases_show::answered(parlaqen::plq_split(
-        pack,
-        size(numbers, 3),
-        size(numbers, 4),
-        starts,
-        sizes,
-    ));
-    cases_show::words(starts);
-    cases_show::words(sizes);
+fn split_in(
+    rt: &impl Print,
+    numbers: &[u32],
+    pack: &[u8],
+    starts: &mut [u32],
+    sizes: &mut [u32],
+) -> io::Result<()> {
+    cases_show::answered(
+        rt,
+        parlaqen::plq_split(pack, size(numbers, 3), size(numbers, 4), starts, sizes),
+    )?;
+    cases_show::words(rt, starts)?;
+    cases_show::words(rt, sizes)
 }
 
 // split BYTES ROOM ROOM BITS TREES    the starts and the sizes of the trees of the pack in hand
-fn split(numbers: &[u32], pack: &[u8]) {
+fn split(rt: &impl Print, numbers: &[u32], pack: &[u8]) -> io::Result<()> {
     let mut starts = [9u32; 300];
     let mut sizes = [9u32; 300];
     let n = room(numbers, 1, 300);
     let m = room(numbers, 2, 300);
-    split_in(numbers, pack, &mut starts[0..n], &mut sizes[0..m]);
+    split_in(rt, numbers, pack, &mut starts[0..n], &mut sizes[0..m])
 }
 
 // view END FROM      some of the bytes in hand
-fn view(numbers: &[u32], bytes: &[u8]) {
+fn view(rt: &impl Print, numbers: &[u32], bytes: &[u8]) -> io::Result<()> {
     let from = room(numbers, 1, bytes.len());
-    cases_show::bytes(&bytes[from..]);
+    cases_show::bytes(rt, &bytes[from..])
 }
 
 // check BYTES        the check of the image
-fn look_at(word: Word, numbers: &[u32], parents: &[u32], metres: &[u32], bytes: &[u8]) {
+fn look_at(
+    rt: &impl Print,
+    word: Word,
+    numbers: &[u32],
+    parents: &[u32],
+    metres: &[u32],
+    bytes: &[u8],
+) -> io::Result<()> {
     match word {
-        Word::Check => cases_show::answered(parlaqen::plq_check_image(bytes)),
+        Word::Check => cases_show::answered(rt, parlaqen::plq_check_image(bytes)),
         Word::Decode | Word::Unseal | Word::Untext | Word::Distances | Word::Ask | Word::List =>
-            read(word, numbers, parents, metres, bytes),
-        Word::Nodes => nodes(numbers, bytes),
-        Word::Split => split(numbers, bytes),
-        Word::View => view(numbers, bytes),
-        _ => {}
+            read(rt, word, numbers, parents, metres, bytes),
+        Word::Nodes => nodes(rt, numbers, bytes),
+        Word::Split => split(rt, numbers, bytes),
+        Word::View => view(rt, numbers, bytes),
+        _ => Ok(()),
     }
 }
 
-fn look(word: Word, numbers: &[u32], parents: &[u32], metres: &[u32], bytes: &[u8]) {
+fn look(
+    rt: &impl Print,
+    word: Word,
+    numbers: &[u32],
+    parents: &[u32],
+    metres: &[u32],
+    bytes: &[u8],
+) -> io::Result<()> {
     let n = room(numbers, 0, bytes.len());
-    look_at(word, numbers, parents, metres, &bytes[0..n]);
+    look_at(rt, word, numbers, parents, metres, &bytes[0..n])
 }
 
-fn obey(word: Word, numbers: &[u32], parents: &mut [u32], metres: &mut [u32], bytes: &mut [u8]) {
+fn obey(
+    rt: &impl Print,
+    word: Word,
+    numbers: &[u32],
+    parents: &mut [u32],
+    metres: &mut [u32],
+    bytes: &mut [u8],
+) -> io::Result<()> {
     match word {
-        Word::Parents | Word::Grow | Word::Branches | Word::Mixed => cases_script::plant(
-            word, numbers, parents,
-        ),
-        Word::Metres | Word::Rise => cases_script::plant(word, numbers, metres),
-        Word::Hold | Word::Flip | Word::Reseal | Word::Pad => cases_script::alter(
-            word, numbers, bytes,
-        ),
+        Word::Parents | Word::Grow | Word::Branches | Word::Mixed => {
+            cases_script::plant(word, numbers, parents);
+            Ok(())
+        }
+        Word::Metres | Word::Rise => {
+            cases_script::plant(word, numbers, metres);
+            Ok(())
+        }
+        Word::Hold | Word::Flip | Word::Reseal | Word::Pad => {
+            cases_script::alter(word, numbers, bytes);
+            Ok(())
+        }
         Word::Encode | Word::Image | Word::Survey | Word::Text | Word::Join => make(
-            word, numbers, parents, metres, bytes,
+            rt, word, numbers, parents, metres, bytes,
         ),
-        _ => look(word, numbers, parents, metres, bytes),
+        _ => look(rt, word, numbers, parents, metres, bytes),
     }
 }
 
-fn step(line: &[u8], parents: &mut [u32], metres: &mut [u32], bytes: &mut [u8]) {
+fn step(
+    rt: &impl Print,
+    line: &[u8],
+    parents: &mut [u32],
+    metres: &mut [u32],
+    bytes: &mut [u8],
+) -> io::Result<()> {
     let mut numbers = [0u32; 1024];
     let n = cases_script::numbers_of(line, &mut numbers);
     let word = cases_script::word_of(line);
-    obey(word, &numbers[0..n], parents, metres, bytes);
+    obey(rt, word, &numbers[0..n], parents, metres, bytes)
 }
 
-fn run(text: &[u8], parents: &mut [u32], metres: &mut [u32], bytes: &mut [u8]) {
+fn run(
+    rt: &impl Print,
+    text: &[u8],
+    parents: &mut [u32],
+    metres: &mut [u32],
+    bytes: &mut [u8],
+) -> io::Result<()> {
     let mut at: usize = 0;
     while at < text.len() {
         let end = cases_script::line_end(text, at);
-        io::write_all(1, &text[at..end]);
-        step(&text[at..end], parents, metres, bytes);
+        rt.write_all(&text[at..end])?;
+        step(rt, &text[at..end], parents, metres, bytes)?;
         at = end;
     }
+    Ok(())
 }
 
 // Bytes in hand: one more than a text may have, and more than an image has. The length of an array
@@ -216,12 +285,28 @@ fn zeros() -> [u8; 1048577] {
     [0u8; 1048577]
 }
 
+// Reads until the buffer is full or the input ends, and answers how many bytes it put at the start
+// of the buffer.
+fn read_full(input: &mut impl Read, buffer: &mut [u8]) -> io::Result<usize>
+    ensures { IfOk result (λ count. count ≤ length buffer.new) }
+{
+    let mut done: usize = 0;
+    while done < buffer.len() {
+        let more = input.read(&mut buffer[done..])?;
+        if more == 0 {
+            break;
+        }
+        done += more;
+    }
+    Ok(done)
+}
+
 // There is room for one node more than a tree may have.
-fn main() {
-    let mut text = io::large_buffer();
+fn main(rt: HostRuntime) -> io::Result<()> {
+    let mut text = [0u8; 65536];
     let mut parents = [0u32; 65536];
     let mut metres = [0u32; 65536];
     let mut bytes = zeros();
-    let n = io::read_full(0, &mut text);
-    run(&text[..n], &mut parents, &mut metres, &mut bytes);
+    let n = read_full(&mut rt.stdin(), &mut text)?;
+    run(&rt, &text[..n], &mut parents, &mut metres, &mut bytes)
 }

@@ -2,6 +2,7 @@
 #![tactic(auto)]
 
 use meaning::Answer;
+use std::io;
 use std::num::wrapping_add_u32;
 
 // The longest list that is shown entry by entry.
@@ -20,31 +21,30 @@ fn byte(x: u8) -> u32 {
     x as u32
 }
 
-fn number(x: u32) {
-    io::write_all(1, b" ");
-    io::print_decimal(1, x as u64);
+fn number(rt: &impl Print, x: u32) -> io::Result<()> {
+    print!(rt; " {x}")
 }
 
-fn end() {
-    io::write_all(1, b"\n");
+fn end(rt: &impl Print) -> io::Result<()> {
+    rt.write_all(b"\n")
 }
 
 // Code, place and the two counts.
-pub fn answered(a: Answer) {
-    io::write_all(1, b"  answer");
-    number(a.code);
-    number(a.place);
-    number(a.first);
-    number(a.second);
-    end();
+pub fn answered(rt: &impl Print, a: Answer) -> io::Result<()> {
+    rt.write_all(b"  answer")?;
+    number(rt, a.code)?;
+    number(rt, a.place)?;
+    number(rt, a.first)?;
+    number(rt, a.second)?;
+    end(rt)
 }
 
-pub fn summed(d: Digest) {
-    io::write_all(1, b"  nines and sums");
-    number(d.nines);
-    number(d.s);
-    number(d.t);
-    end();
+pub fn summed(rt: &impl Print, d: Digest) -> io::Result<()> {
+    rt.write_all(b"  nines and sums")?;
+    number(rt, d.nines)?;
+    number(rt, d.s)?;
+    number(rt, d.t)?;
+    end(rt)
 }
 
 fn after(d: Digest, x: u32) -> Digest {
@@ -76,47 +76,51 @@ fn after_bytes(before: Digest, list: &[u8]) -> Digest {
 }
 
 // A lent list of numbers, as it is now.
-pub fn words(list: &[u32]) {
+pub fn words(rt: &impl Print, list: &[u32]) -> io::Result<()> {
     if MOST_SHOWN < list.len() {
-        summed(after_words(
-            Digest {
-                nines: 0,
-                s: 0,
-                t: 0,
-            },
-            list,
-        ));
-        return;
+        return summed(
+            rt,
+            after_words(
+                Digest {
+                    nines: 0,
+                    s: 0,
+                    t: 0,
+                },
+                list,
+            ),
+        );
     }
-    io::write_all(1, b"  list");
+    rt.write_all(b"  list")?;
     for i in 0..list.len() {
-        number(list[i]);
+        number(rt, list[i])?;
     }
-    end();
+    end(rt)
 }
 
 // A lent buffer, as it is now.
-pub fn bytes(list: &[u8]) {
+pub fn bytes(rt: &impl Print, list: &[u8]) -> io::Result<()> {
     if MOST_SHOWN < list.len() {
-        summed(after_bytes(
-            Digest {
-                nines: 0,
-                s: 0,
-                t: 0,
-            },
-            list,
-        ));
-        return;
+        return summed(
+            rt,
+            after_bytes(
+                Digest {
+                    nines: 0,
+                    s: 0,
+                    t: 0,
+                },
+                list,
+            ),
+        );
     }
-    io::write_all(1, b"  bytes");
+    rt.write_all(b"  bytes")?;
     for i in 0..list.len() {
-        number(byte(list[i]));
+        number(rt, byte(list[i]))?;
     }
-    end();
+    end(rt)
 }
 
 // How many entries of a list are at the same places of another.
-pub fn equal(a: &[u32], b: &[u32]) {
+pub fn equal(rt: &impl Print, a: &[u32], b: &[u32]) -> io::Result<()> {
     let mut k: u32 = 0;
     let mut i: usize = 0;
     while i < a.len() {
@@ -128,7 +132,7 @@ pub fn equal(a: &[u32], b: &[u32]) {
         }
         i += 1;
     }
-    io::write_all(1, b"  equal");
-    number(k);
-    end();
+    rt.write_all(b"  equal")?;
+    number(rt, k)?;
+    end(rt)
 }

@@ -1,5 +1,5 @@
-// The thirteen public calls, for C and Rust: include/parlaqen.h declares them. Each is one call of
-// its layer, with the same contract.
+// The thirteen public calls, for other crates: `parlaqen_c` exports them to C and Rust. Each is one
+// call of its layer, with the same contract.
 #![tactic(auto)]
 
 ghost use Rattle.std.specs.Prelude.{◌≡◌};
@@ -8,64 +8,55 @@ ghost use Rattle.calls.specs.Calls.{string_of_parents, parents_of_string, image_
 
 use meaning::Answer;
 
-#[unsafe(no_mangle)]
-pub extern "C" fn plq_string_of_parents(parents: &[u32], bytes: &mut [u8]) -> Answer
+pub fn plq_string_of_parents(parents: &[u32], bytes: &mut [u8]) -> Answer
     ensures { came_to result bytes.new ≡ string_of_parents parents.now bytes.old }
 {
     call_string_of_parents::string_of_parents(parents, bytes)
 }
 
-#[unsafe(no_mangle)]
-pub extern "C" fn plq_parents_of_string(bytes: &[u8], bits: usize, parents: &mut [u32]) -> Answer
+pub fn plq_parents_of_string(bytes: &[u8], bits: usize, parents: &mut [u32]) -> Answer
     ensures { came_to result parents.new ≡ parents_of_string bytes.now bits parents.old }
 {
     call_parents_of_string::parents_of_string(bytes, bits, parents)
 }
 
-#[unsafe(no_mangle)]
-pub extern "C" fn plq_image_of_parents(parents: &[u32], image: &mut [u8]) -> Answer
+pub fn plq_image_of_parents(parents: &[u32], image: &mut [u8]) -> Answer
     ensures { came_to result image.new ≡ image_of_parents parents.now image.old }
 {
     call_image_of_parents::image_of_parents(parents, image)
 }
 
-#[unsafe(no_mangle)]
-pub extern "C" fn plq_image_with_metres(parents: &[u32], metres: &[u32], image: &mut [u8]) -> Answer
+pub fn plq_image_with_metres(parents: &[u32], metres: &[u32], image: &mut [u8]) -> Answer
     ensures { came_to result image.new ≡ image_with_metres parents.now metres.now image.old }
 {
     call_image_with_metres::image_with_metres(parents, metres, image)
 }
 
-#[unsafe(no_mangle)]
-pub extern "C" fn plq_parents_of_image(image: &[u8], parents: &mut [u32]) -> Answer
+pub fn plq_parents_of_image(image: &[u8], parents: &mut [u32]) -> Answer
     ensures { came_to result parents.new ≡ parents_of_image image.now parents.old }
 {
     call_parents_of_image::parents_of_image(image, parents)
 }
 
-#[unsafe(no_mangle)]
-pub extern "C" fn plq_metres_of_image(image: &[u8], metres: &mut [u32]) -> Answer
+pub fn plq_metres_of_image(image: &[u8], metres: &mut [u32]) -> Answer
     ensures { came_to result metres.new ≡ metres_of_image image.now metres.old }
 {
     call_metres_of_image::metres_of_image(image, metres)
 }
 
-#[unsafe(no_mangle)]
-pub extern "C" fn plq_check_image(image: &[u8]) -> Answer
+pub fn plq_check_image(image: &[u8]) -> Answer
     ensures { came_to result tt ≡ check_image image.now }
 {
     call_check_image::check_image(image)
 }
 
-#[unsafe(no_mangle)]
-pub extern "C" fn plq_ask(image: &[u8], questions: &[i32], answers: &mut [u32]) -> Answer
+pub fn plq_ask(image: &[u8], questions: &[i32], answers: &mut [u32]) -> Answer
     ensures { came_to result answers.new ≡ ask_image image.now questions.now answers.old }
 {
     call_ask::ask(image, questions, answers)
 }
 
-#[unsafe(no_mangle)]
-pub extern "C" fn plq_split(
+pub fn plq_split(
     bytes: &[u8],
     bits: usize,
     trees: usize,
@@ -77,29 +68,25 @@ pub extern "C" fn plq_split(
     call_split::split(bytes, bits, trees, starts, sizes)
 }
 
-#[unsafe(no_mangle)]
-pub extern "C" fn plq_join(pack: &mut [u8], bits: usize, trees: usize, parents: &[u32]) -> Answer
+pub fn plq_join(pack: &mut [u8], bits: usize, trees: usize, parents: &[u32]) -> Answer
     ensures { came_to result pack.new ≡ join_pack pack.old bits trees parents.now }
 {
     call_join::join(pack, bits, trees, parents)
 }
 
-#[unsafe(no_mangle)]
-pub extern "C" fn plq_list(image: &[u8], node: u32, pairs: &mut [u32]) -> Answer
+pub fn plq_list(image: &[u8], node: u32, pairs: &mut [u32]) -> Answer
     ensures { came_to result pairs.new ≡ list_image image.now node pairs.old }
 {
     call_list::list(image, node, pairs)
 }
 
-#[unsafe(no_mangle)]
-pub extern "C" fn plq_parents_of_text(text: &[u8], parents: &mut [u32]) -> Answer
+pub fn plq_parents_of_text(text: &[u8], parents: &mut [u32]) -> Answer
     ensures { came_to result parents.new ≡ parents_of_text text.now parents.old }
 {
     call_parents_of_text::parents_of_text(text, parents)
 }
 
-#[unsafe(no_mangle)]
-pub extern "C" fn plq_text_of_parents(parents: &[u32], text: &mut [u8]) -> Answer
+pub fn plq_text_of_parents(parents: &[u32], text: &mut [u8]) -> Answer
     ensures { came_to result text.new ≡ text_of_parents parents.now text.old }
 {
     call_text_of_parents::text_of_parents(parents, text)
