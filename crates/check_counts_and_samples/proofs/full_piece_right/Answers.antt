@@ -42,7 +42,9 @@ whole : (c : goal.After-ones_from) → let a = c.args in
 whole c =
     let a = c.args in
     let all = ap (λ n. ones (bits_from a.b.now (8 * a.piece.at) n)) c.requires.piece_value in
-    omega (arith, counts c.before.before 62 (omega arith), c.ones_from.ensures, ones-after a.b.now a.piece.at 496 32, all)
+    let made = c.count_words in
+    let counted = counts-before a.b.now a.piece.at made.new.table made.ensures.word_counts c.add_up.new.table c.add_up.ensures in
+    omega (arith, counted 62 (omega arith), c.ones_from.ensures, ones-after a.b.now a.piece.at 496 32, all)
 
 pub overflow_add-k-2 : goal.overflow_add-k-2
 overflow_add-k-2 c =
