@@ -1,7 +1,6 @@
 use Prim.Native.Nat.{◌+◌, ◌-◌, ◌*◌, ◌/◌, ◌%◌, ◌^◌, ◌<◌}
 use lib.Bits.{bit_or}
 use lib.ListN.{length, get_or, set, length-set}
-use mathlib.Core.Logic.{⊎_elim}
 use mathlib.Core.Path.{◌∙◌, sym, ap, ap₂, subst}
 use native.Mathlib.Omega.{arith}
 use Rattle.bits_byte.specs.Lit.{lit}
@@ -11,6 +10,7 @@ use Rattle.seal_r1.specs.Passes.{byte_place}
 use Rattle.seal_r0.proofs.Gapping.{Gapping, gapping_first, gapping_low, gapping_other, gapping_same, gapping_last, last_bit_inside}
 use borrow.Author.Rules.{rules}
 use Rattle.seal_r0.proofs.write_r0.Goals as goal
+use Rattle.seal_r0.proofs.write_r0.Goals.{then-x-c, else-x-c}
 
 pub loop-i-init : goal.loop-i-init
 loop-i-init c =
@@ -18,7 +18,6 @@ loop-i-init c =
 
 pub overflow_sub-x : goal.overflow_sub-x
 overflow_sub-x c =
-    let at = c.before.before.before in
     let a = c.args in
     let are = good_parents a.ps.now c.requires.in_bounds c.requires.ps_value in
     omega (
@@ -30,7 +29,6 @@ overflow_sub-x c =
 
 pub byte_place-to-requires : goal.byte_place-to-requires
 byte_place-to-requires c =
-    let at = c.before.before.before.before.before in
     let a = c.args in
     let are = good_parents a.ps.now c.requires.in_bounds c.requires.ps_value in record {
       bits_block_le_most_block = c.requires.zeros_le_most_block;
@@ -44,7 +42,6 @@ byte_place-to-requires c =
 
 pub bounds-image-to : goal.bounds-image-to
 bounds-image-to c =
-    let at = c.before.before.before.before.before.before.before in
     let a = c.args in
     let are = good_parents a.ps.now c.requires.in_bounds c.requires.ps_value in
     omega (
@@ -60,24 +57,24 @@ bounds-image-to c =
 
 pub loop-i-preserved : goal.loop-i-preserved
 loop-i-preserved c =
-    let at = c.before.before.before.before.before in
     let a = c.args in
     let are = good_parents a.ps.now c.requires.in_bounds c.requires.ps_value in
     let x = c.wide-x.result - 1 in
-    ⊎_elim
-    (λ w. gapping_other a.ps.now a.image.now c.loop-i.image a.zeros c.loop-i.c c.loop-i.byte c.loop-i.i are c.loop-i.invariant c.requires.ps_in_bounds x
-    c.loop-i-test.true (ap (λ y. y - 1) c.wide-x.ensures) _ _ _
-    (w.4 ∙ ap (λ p. set c.loop-i.image p c.loop-i.byte) w.1.ensures) w.5
-    (ap (λ y. bit_or y (128 / 2 ^ (x % 8))) (w.6 ∙ ap₂ (λ s p. get_or s p 0) (sym w.4) (w.2.ensures ∙ ap (λ j. byte_place a.zeros j) (sym w.5)))))
-    (λ w. gapping_same a.ps.now a.image.now c.loop-i.image a.zeros c.loop-i.c c.loop-i.byte c.loop-i.i are c.loop-i.invariant c.requires.ps_in_bounds x
-    c.loop-i-test.true (ap (λ y. y - 1) c.wide-x.ensures) _ _ _ w.0.left w.1 w.2
-    (ap (λ y. bit_or y (128 / 2 ^ (x % 8))) w.3))
-    c.if-x-c.branch
+    elim c.if-x-c.branch [
+      | then-x-c w ↦
+          gapping_other a.ps.now a.image.now c.loop-i.image a.zeros c.loop-i.c c.loop-i.byte c.loop-i.i are c.loop-i.invariant c.requires.ps_in_bounds x
+          c.loop-i-test.true (ap (λ y. y - 1) c.wide-x.ensures) _ _ _
+          (w.image-is ∙ ap (λ p. set c.loop-i.image p c.loop-i.byte) w.byte_place-at.ensures) w.c-is
+          (ap (λ y. bit_or y (128 / 2 ^ (x % 8)))
+          (w.byte-is ∙ ap₂ (λ s p. get_or s p 0) (sym w.image-is) (w.byte_place-to.ensures ∙ ap (λ j. byte_place a.zeros j) (sym w.c-is))))
+      | else-x-c w ↦
+          gapping_same a.ps.now a.image.now c.loop-i.image a.zeros c.loop-i.c c.loop-i.byte c.loop-i.i are c.loop-i.invariant c.requires.ps_in_bounds x
+          c.loop-i-test.true (ap (λ y. y - 1) c.wide-x.ensures) _ _ _ w.if-x-c.false w.image-is w.c-is
+          (ap (λ y. bit_or y (128 / 2 ^ (x % 8))) w.byte-is)
+    ]
 
 pub set_bit-requires : goal.set_bit-requires
 set_bit-requires c =
-    let placed = c.before.before in
-    let at = placed.before.before in
     let a = c.args in
     let kept = length-set c.loop-i.image c.byte_place-at-2.result c.loop-i.byte ∙ c.loop-i.invariant.kept in
     subst (λ size. 8 * c.bits_at.result + length a.ps.now % 4000 < 8 * size) (sym kept)
@@ -85,8 +82,6 @@ set_bit-requires c =
 
 pub shape_of-image : goal.shape_of-image
 shape_of-image c =
-    let bits = c.before.before.before in
-    let placed = bits.before.before in
     let a = c.args in
     let put = set c.loop-i.image c.byte_place-at-2.result c.loop-i.byte in
     ap length c.set_bit.ensures ∙ lit-length put (8 * c.bits_at.result + length a.ps.now % 4000)
@@ -94,9 +89,6 @@ shape_of-image c =
 
 pub returns : goal.returns
 returns c =
-    let bits = c.before.before.before in
-    let placed = bits.before.before in
-    let at = placed.before.before in
     let a = c.args in
     let are = good_parents a.ps.now c.requires.in_bounds c.requires.ps_value in
     gapping_last a.ps.now a.image.now c.loop-i.image a.zeros c.loop-i.c c.loop-i.byte c.loop-i.i are c.loop-i.invariant c.requires.ps_in_bounds

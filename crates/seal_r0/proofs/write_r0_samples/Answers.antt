@@ -53,18 +53,16 @@ loop-s-preserved c =
     let wide = next.before in
     let in-loop = wide.before.before.before.before in
     let at = in-loop.before in
-    let more = in-loop.loop-test.true in
-    let start = at.before.before.before in
-    let runs = start.requires.1.1.1 in
-    let apart = runs.1.1.0 in
-    let fits = runs.1.1.1.0 in
-    let a = start.args in
-    let are = good_parents a.ps.now start.requires.0 start.requires.1.1.0 in
-    following_next a.ps.now a.image.now at.loop.image a.r1-samples a.r0-samples at.loop.s are at.loop.invariant start.requires.1.1.1.1.1.1.1.0 (omega (arith, apart))
-    (omega (arith, fits)) start.requires.1.0 (omega (arith, more)) c.wide-place.result
-    (c.wide-place.ensures ∙ c.word.ensures ∙ ap (word_at at.loop.image) c.sample_at.ensures)
+    let more = c.loop-s-test.true in
+    let apart = c.requires.m_bound in
+    let fits = c.requires.m_in_bounds in
+    let a = c.args in
+    let are = good_parents a.ps.now c.requires.in_bounds c.requires.ps_value in
+    following_next a.ps.now a.image.now c.loop-s.image a.r1_samples a.r0_samples c.loop-s.s are c.loop-s.invariant c.requires.r1samples_known (omega (arith, apart))
+    (omega (arith, fits)) c.requires.ps_len_bound (omega (arith, more)) c.wide-place.result
+    (c.wide-place.ensures ∙ c.word.ensures ∙ ap (word_at c.loop-s.image) c.sample_at.ensures)
     c.next_entry-next.result c.next_entry-next.ensures _
-    (c.put_word.ensures ∙ ap (λ p. with_word at.loop.image p c.next_entry-next.result) c.sample_at-in-loop-s.ensures)
+    (c.put_word.ensures ∙ ap (λ p. with_word c.loop-s.image p c.next_entry-next.result) c.sample_at-in-loop-s.ensures)
 
 pub shape_of-image : goal.shape_of-image
 shape_of-image c = c.loop-s.invariant.kept

@@ -1,0 +1,19 @@
+use mathlib.Core.Path.{◌≡◌, ap}
+use Prim.Native.Nat.{ℕ, ◌+◌, ◌-◌, ◌*◌, ◌≤◌}
+use native.Mathlib.Omega.{arith}
+use Rattle.meaning.specs.Strings.{ones}
+use Rattle.meaning.specs.Bytes.{bits_from}
+use Rattle.check_runs_words.specs.Steps.{StepAt}
+use Rattle.bits_count.proofs.Runs.{bits-ones-le, ones-after}
+use Rattle.check_runs_words.proofs.Stepping.{word_apart, word-few}
+use Rattle.check_runs.proofs.WordsStepping.{step_with, step_left}
+use Rattle.image_string.proofs.Saying.{decides_held, decides_missed, decides_same}
+use Rattle.check_runs_words.proofs.BytesStepping.{step-none, step_join, step_part}
+use Rattle.check_runs.proofs.words_in_step.Given as goal
+
+abbrev pub invariant-loop-i : goal.invariant-loop-i
+invariant-loop-i l =
+    (s : ℕ) × (8 * l.i ≤ l.n) × (l.before1 + s ≡ l.ones1 + ones (bits_from l.b (8 * l.at1) (8 * l.i))) × (l.before0 + s ≡ l.ones0 + ones (bits_from l.b (8 * l.at0) (8 * l.i))) × StepAt l.b l.at1 l.at0 (8 * l.i) l.ones1 l.ones0
+
+abbrev pub decreases-loop-i : goal.decreases-loop-i
+decreases-loop-i l = l.n - 8 * l.i
