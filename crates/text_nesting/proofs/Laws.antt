@@ -3,14 +3,11 @@ use mathlib.Core.Path.{◌≡◌, refl, sym, ap, ◌∙◌}
 use mathlib.Core.Bool.{Bool, true, false, cond}
 use mathlib.Core.List.{List, [], ◌∷◌}
 use Prim.Native.Nat.{ℕ, zero, suc, ◌+◌, ◌-◌, ◌≤◌, ◌<◌}
-use mathlib.Core.Logic.{⊎_elim}
 use native.Mathlib.Omega.{arith}
 use native.Mathlib.Numerals.{add-one}
 use borrow.Author.Tests.{ne_eqb}
 use native.Mathlib.Decide.{ℕ_discrete}
 use lib.Dec.{eqb}
-use denote.Enum.Declared.{tag_of}
-use types.Run.{OneOf}
 use lib.ListN.{length, get_or, set, drop, length-set, drop_of_length-le}
 use lib.Seq.{drop-cons, get_or-set_same, get_or-set_other}
 use Rattle.meaning.specs.Strings.{Bit}
@@ -18,7 +15,6 @@ use Rattle.meaning.specs.Text.{is_blank, brackets_in, Reading, inside, over, wro
 use Rattle.text_laws.proofs.Bytes.{brackets-at}
 use Rattle.text_nesting.specs.declared.Found.{Found}
 use Rattle.text_nesting.specs.declared.Found.TheVariants.{Over, Broken, Deeper}
-use Rattle.text_nesting.specs.contracts.Found.{the_type}
 use Rattle.text_nesting.specs.Nesting.{tally, open_in, Same, Going, Ready, Stops, NodeRead, ListRead, TextRead}
 
 -- ---- readings that follow one another
@@ -130,26 +126,23 @@ still_inside zero m h = absurd (omega arith)
 still_inside (suc k) m h = refl
 
 -- ---- where what follows stops, the whole stops
-not-over : {X : Type 0} (to : ℕ) → OneOf (1 ∷ 2 ∷ []) (tag_of the_type (Over to)) → X
-not-over to o = absurd (⊎_elim (λ e. omega arith) (λ e. omega arith) o)
-
 module _ (text k l m : List ℕ) where
-  pub list_stops : (from at left : ℕ) (r : Found) → OneOf (1 ∷ 2 ∷ []) (tag_of the_type r)
+  pub list_stops : (from at left : ℕ) (r : Found) → ((to : ℕ) → r ≡ Over to → ⊥)
       → Same text from at (inside (64 - left) left) (inside (64 - left) left) k l → NodeRead text at left l r m → ListRead text from left k r m
-  list_stops from at left (Over to) o p g = not-over to o
+  list_stops from at left (Over to) o p g = absurd (o to refl)
   list_stops from at left (Broken q) o p g = (g.0, g.1, p.read ∙ g.2)
   list_stops from at left (Deeper q) o p g = (g.0, g.1, p.read ∙ g.2)
 
-  pub node_stops : (at left : ℕ) (r : Found) → OneOf (1 ∷ 2 ∷ []) (tag_of the_type r)
+  pub node_stops : (at left : ℕ) (r : Found) → ((to : ℕ) → r ≡ Over to → ⊥)
       → Same text at (at + 1) (inside (64 - left) left) (inside (64 - (left - 1)) (left - 1)) k l → ListRead text (at + 1) (left - 1) l r m → NodeRead text at left k r m
-  node_stops at left (Over to) o p g = not-over to o
+  node_stops at left (Over to) o p g = absurd (o to refl)
   node_stops at left (Broken q) o p g = (g.0, g.1, p.read ∙ g.2)
   node_stops at left (Deeper q) o p g = (g.0, g.1, p.read ∙ g.2)
 
-  pub text_stops : (at : ℕ) (r : Found) → OneOf (1 ∷ 2 ∷ []) (tag_of the_type r)
+  pub text_stops : (at : ℕ) (r : Found) → ((to : ℕ) → r ≡ Over to → ⊥)
       → Same text 0 at (inside 0 64) (inside 0 64) k l → NodeRead text at 64 l r m → TextRead text k r m
   unfolding read_text read_within
-  text_stops at (Over to) o p g = not-over to o
+  text_stops at (Over to) o p g = absurd (o to refl)
   text_stops at (Broken q) o p g = (g.0, g.1, p.read ∙ g.2)
   text_stops at (Deeper q) o p g = (g.0, g.1, p.read ∙ g.2)
 

@@ -1,13 +1,8 @@
-use mathlib.Core.Path.{refl, sym, ◌∙◌}
 use mathlib.Core.List.{List}
 use Prim.Native.Nat.{ℕ, ◌-◌, ◌≤◌}
-use native.Mathlib.Omega.{arith}
-use borrow.Author.Rules.{rules}
-use borrow.Author.Tests.{not-true, not-false}
 use lib.ListN.{length}
 use Rattle.meaning.specs.Text.{Reading}
 use Rattle.text_nesting.specs.Nesting.{Going, Same}
-use Rattle.text_nesting.proofs.Laws.{then, blank}
 use Rattle.text_nesting.proofs.past_blanks.Given as goal
 
 abbrev pub invariant-loop-at : goal.invariant-loop-at
