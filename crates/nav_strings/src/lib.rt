@@ -4,7 +4,7 @@
 ghost use Rattle.std.specs.Prelude.{◌≡◌, ◌+◌, ◌≤◌};
 ghost use Rattle.meaning.specs.Bytes.{value};
 ghost use Rattle.theory.specs.Rank.{ones_left, position};
-ghost use Rattle.theory.specs.Stages.{nodes_of, read_r1, read_r0, r0_block};
+ghost use Rattle.theory.specs.Stages.{nodes_of, read_r1, read_r0, r0_block as r0_begins};
 ghost use Rattle.theory.specs.ByStrings.{bit_of};
 ghost use Rattle.image_found.specs.declared.Checked.TheVariants.{Sound};
 ghost use Rattle.image_found.specs.Checked.{checked, layout_in};
@@ -27,7 +27,7 @@ pub fn bit_r1(b: &[u8], x: usize) -> u8
 // that block and not the layout, since a listing would copy the layout for each of its nodes.
 pub fn bit_r0(b: &[u8], r0_block: usize, x: usize) -> u8
     requires node { IsNode b.now (layout_in b.now) x }
-    requires r0_block_value { r0_block ≡ r0_block (nodes_of b.now) }
+    requires r0_block_value { r0_block ≡ r0_begins (nodes_of b.now) }
     ensures { result ≡ value (bit_of (read_r0 b.now) x) }
 {
     string_bit(b, r0_block, x - 1)

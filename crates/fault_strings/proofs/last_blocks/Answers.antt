@@ -7,7 +7,7 @@ use Rattle.image_string.proofs.Saying.{decides_same}
 use Rattle.check_runs.specs.Steps.{StepWithin}
 use Rattle.fault_strings.specs.Given.{LastBlocks}
 use Rattle.fault_strings.proofs.last_blocks.Goals as goal
-use Rattle.fault_strings.proofs.last_blocks.Goals.{After-ones_from, After-ones_from-2}
+use Rattle.fault_strings.proofs.last_blocks.Goals.{After-last_block-last, After-ones_from, After-ones_from-2}
 
 -- the ones before the last block
 module _ (c : goal.After-last_block-last) where
@@ -15,10 +15,10 @@ module _ (c : goal.After-last_block-last) where
   j = c.last_block-last.result
 
   before1 : c.args.ones1 ≡ ones_to c.args.b.now 1 (4000 * j)
-  before1 = c.pre.1.1.1.1.1.0 ∙ ap (λ i. ones_to c.args.b.now 1 (4000 * i)) (sym c.last_block-last.ensures)
+  before1 = c.requires.ones1_value ∙ ap (λ i. ones_to c.args.b.now 1 (4000 * i)) (sym c.last_block-last.ensures)
 
   before0 : c.args.ones0 ≡ ones_to c.args.b.now c.args.r0_block (4000 * j)
-  before0 = c.pre.1.1.1.1.1.1 ∙ ap (λ i. ones_to c.args.b.now c.args.r0_block (4000 * i)) (sym c.last_block-last.ensures)
+  before0 = c.requires.ones0_value ∙ ap (λ i. ones_to c.args.b.now c.args.r0_block (4000 * i)) (sym c.last_block-last.ensures)
 
   -- with the last block these are all of R1's bits, and R0's but for the last
   whole : 4000 * j + (c.args.n - 4000 * j) ≡ c.args.n
@@ -26,29 +26,25 @@ module _ (c : goal.After-last_block-last) where
 
 -- the ones of R1 in all
 all1 : (c : goal.After-ones_from)
-    → let l = c.before.before in
-    let a = c.args in
+    → let a = c.args in
     let j = c.last_block-last.result in
     a.ones1 + c.ones_from.result ≡ ones_to a.b.now 1 (4000 * j + (a.n - 4000 * j))
 all1 c =
-    let l = c.before.before in
     let a = c.args in
     let j = c.last_block-last.result in
     counted_on a.b.now 1 j (a.n - 4000 * j) c.bits_at.result a.ones1 c.ones_from.result (omega (arith, c.last_block-last.ensures)) c.bits_at.ensures
-    (before1 l) c.ones_from.ensures
+    (c.requires.ones1_value ∙ ap (λ i. ones_to a.b.now 1 (4000 * i)) (sym c.last_block-last.ensures)) c.ones_from.ensures
 
 -- the ones of R0 in as many bits
 all0 : (c : goal.After-ones_from-2)
-    → let l = c.before.before.before.before.before in
-    let a = c.args in
+    → let a = c.args in
     let j = c.last_block-last.result in
     a.ones0 + c.ones_from-2.result ≡ ones_to a.b.now a.r0_block (4000 * j + (a.n - 4000 * j))
 all0 c =
-    let l = c.before.before.before.before.before in
     let a = c.args in
     let j = c.last_block-last.result in
     counted_on a.b.now a.r0_block j (a.n - 4000 * j) c.bits_at-2.result a.ones0 c.ones_from-2.result
-    (omega (arith, c.last_block-last.ensures)) c.bits_at-2.ensures (before0 l) c.ones_from-2.ensures
+    (omega (arith, c.last_block-last.ensures)) c.bits_at-2.ensures (c.requires.ones0_value ∙ ap (λ i. ones_to a.b.now a.r0_block (4000 * i)) (sym c.last_block-last.ensures)) c.ones_from-2.ensures
 
 pub last_block-last-requires : goal.last_block-last-requires
 last_block-last-requires c = omega arith
@@ -76,8 +72,7 @@ overflow_add-end1 c =
 
 pub returns-then-end1-m : goal.returns-then-end1-m
 returns-then-end1-m c =
-    let l = c.before.before.before in
-    λ g. c.if-end1-m.true (all1 (goal.at.returns-then-end1-m c).After-ones_from ∙ ap (ones_to c.args.b.now 1) (whole l) ∙ g.ones1)
+    λ g. c.if-end1-m.true (all1 (goal.at.returns-then-end1-m c).After-ones_from ∙ ap (ones_to c.args.b.now 1) (whole (goal.at.returns-then-end1-m c).After-last_block-last) ∙ g.ones1)
 
 pub overflow_add-r0_block : goal.overflow_add-r0_block
 overflow_add-r0_block c = omega (arith, c.last_block-last.ensures)
@@ -102,29 +97,23 @@ overflow_add-end0-2 c =
 
 pub returns-then-end0-m : goal.returns-then-end0-m
 returns-then-end0-m c =
-    let l = c.before.before.before.before.before.before in
     let a = c.args in
-    λ g. c.if-end0-m.true (ap (λ k. k + 1) (all0 (goal.at.returns-then-end0-m c).After-ones_from-2 ∙ ap (ones_to a.b.now a.r0_block) (whole l)) ∙ g.ones0)
+    λ g. c.if-end0-m.true (ap (λ k. k + 1) (all0 (goal.at.returns-then-end0-m c).After-ones_from-2 ∙ ap (ones_to a.b.now a.r0_block) (whole (goal.at.returns-then-end0-m c).After-last_block-last)) ∙ g.ones0)
 
 pub block_step-requires : goal.block_step-requires
 block_step-requires c =
-    let e = c.before.before.before.before in
-    let l = e.before.before in
     let last = c.last_block-last.ensures in
-    record { n_bound = omega arith; b_len_bound = omega arith; j_in_bounds = omega arith; j_in_bounds_2 = omega arith; ones1_value = before1 l; ones0_value = before0 l; end1_value = all1 (goal.at.block_step-requires c).After-ones_from }
+    record { n_bound = omega arith; b_len_bound = omega arith; j_in_bounds = omega arith; j_in_bounds_2 = omega arith; ones1_value = before1 (goal.at.block_step-requires c).After-last_block-last; ones0_value = before0 (goal.at.block_step-requires c).After-last_block-last; end1_value = all1 (goal.at.block_step-requires c).After-ones_from }
 
 pub returns : goal.returns
 returns c =
-    let e0 = c.before in
-    let e1 = e0.before.before.before in
-    let l = e1.before.before.before in
     let a = c.args in
     let b = a.b.now in
     let z = a.r0_block in
     let last = c.last_block-last in
     let j = last.result in
-    let ones1 = ap (ones_to b 1) (sym (whole l)) ∙ sym (all1 (goal.at.returns c).After-ones_from) ∙ c.if-end1-m.false in
-    let ones0 = ap (λ k. k + 1) (ap (ones_to b z) (sym (whole l)) ∙ sym (all0 (goal.at.returns c).After-ones_from-2)) ∙ c.if-end0-m.false in
+    let ones1 = ap (ones_to b 1) (sym (whole (goal.at.returns c).After-last_block-last)) ∙ sym (all1 (goal.at.returns c).After-ones_from) ∙ c.if-end1-m.false in
+    let ones0 = ap (λ k. k + 1) (ap (ones_to b z) (sym (whole (goal.at.returns c).After-last_block-last)) ∙ sym (all0 (goal.at.returns c).After-ones_from-2)) ∙ c.if-end0-m.false in
     decides_same c.block_step.result (StepWithin b z (4000 * j) (4000 * j + (a.n - 4000 * j))) (LastBlocks b z a.n a.m)
     (λ this. record { ones1 = ones1; ones0 = ones0; in_step = λ p h g. this p (omega (arith, last.ensures)) (omega (arith, last.ensures)) })
     (λ s p h g. s.in_step p (omega (arith, last.ensures)) (omega (arith, last.ensures))) c.block_step.ensures

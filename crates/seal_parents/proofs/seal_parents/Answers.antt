@@ -17,19 +17,16 @@ use borrow.Author.Rules.{rules}
 use Rattle.seal_parents.proofs.seal_parents.Goals as goal
 use Rattle.seal_parents.proofs.seal_parents.Goals.{After-layout_of-layout, In-Passed}
 
-abbrev start : goal.In-Passed → goal.Start
-start t = t.before.before.before.before.before.before
-
 -- the list may be written
-passed : (t : goal.In-Passed) → Passed ≡ first_holding (parent_rows (start t).args.parents.now)
+passed : (t : goal.In-Passed) → Passed ≡ first_holding (parent_rows t.args.parents.now)
 passed t = sym t.in-Passed.is ∙ t.parents_refusal-verdict.ensures
 
 -- the layout is that of the two lists
 laid : (c : goal.After-layout_of-layout)
-    → let a = (start c.before.before.before.before).args in
+    → let a = c.args in
     c.layout_of-layout.result ≡ layout_of (version_of (given a.metres.now)) (length a.parents.now) (runs_in a.parents.now)
 laid c =
-    let a = (start c.before.before.before.before).args in
+    let a = c.args in
     c.layout_of-layout.ensures ∙ ap₂ (λ v m. layout_of v (length a.parents.now) m) c.version_by.ensures c.count_runs.ensures
 
 pub count_runs-requires : goal.count_runs-requires
@@ -42,21 +39,17 @@ layout_of-layout-requires c =
 
 pub returns-then-image-layout : goal.returns-then-image-layout
 returns-then-image-layout c =
-    let l = c.before.before.before in
-    let s = start (goal.at.returns-then-image-layout c).In-Passed in
     let blocks = ap (λ (i : Layout). i.blocks) (laid (goal.at.returns-then-image-layout c).After-layout_of-layout) in
-    answered c.refuse-then-image-layout.ensures (seal_room s.args.metres.now s.args.parents.now s.args.image.now s.pre (passed (goal.at.returns-then-image-layout c).In-Passed) (omega (arith, blocks, c.if-image-layout.true)))
+    answered c.refuse-then-image-layout.ensures (seal_room c.args.metres.now c.args.parents.now c.args.image.now c.requires (passed (goal.at.returns-then-image-layout c).In-Passed) (omega (arith, blocks, c.if-image-layout.true)))
 
 pub write_image-requires : goal.write_image-requires
 write_image-requires c =
-    let l = c.before.before.before in
     let w = writable _ (passed (goal.at.write_image-requires c).In-Passed) in
     let blocks = ap (λ (i : Layout). i.blocks) (laid (goal.at.write_image-requires c).After-layout_of-layout) in
-    record { in_bounds = w.some; ps_len_bound = w.most; ps_value = w.good; metres_len = (start (goal.at.write_image-requires c).In-Passed).requires; layout_value = laid (goal.at.write_image-requires c).After-layout_of-layout; ps_in_bounds = omega (arith, blocks, c.if-image-layout.false) }
+    record { in_bounds = w.some; ps_len_bound = w.most; ps_value = w.good; metres_len = c.requires; layout_value = laid (goal.at.write_image-requires c).After-layout_of-layout; ps_in_bounds = omega (arith, blocks, c.if-image-layout.false) }
 
 pub returns-in-Refused : goal.returns-in-Refused
 returns-in-Refused c =
-    let p = c.before.before in
     answered c.refuse.ensures
     (seal_refused c.args.metres.now c.args.parents.now c.args.image.now c.requires (sym c.in-Refused.is ∙ c.parents_refusal-verdict.ensures))
 
@@ -64,7 +57,6 @@ pub returns-else-image-layout : goal.returns-else-image-layout
 returns-else-image-layout c =
     let made = c.before.before.before in
     let l = made.before.before.before.before in
-    let s = start (goal.at.returns-else-image-layout c).In-Passed in
     let blocks = ap (λ (i : Layout). i.blocks) (laid (goal.at.returns-else-image-layout c).After-layout_of-layout) in
-    seal_made s.args.metres.now s.args.parents.now s.args.image.now s.pre (passed (goal.at.returns-else-image-layout c).In-Passed) (laid (goal.at.returns-else-image-layout c).After-layout_of-layout) (omega (arith, blocks, c.if-image-layout.false))
+    seal_made c.args.metres.now c.args.parents.now c.args.image.now c.requires (passed (goal.at.returns-else-image-layout c).In-Passed) (laid (goal.at.returns-else-image-layout c).After-layout_of-layout) (omega (arith, blocks, c.if-image-layout.false))
     c.done.ensures c.write_image.ensures
