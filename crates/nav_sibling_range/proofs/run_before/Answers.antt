@@ -1,0 +1,31 @@
+use mathlib.Core.Path.{subst}
+use Prim.Native.Nat.{◌-◌, ◌*◌, ◌%◌}
+use native.Mathlib.Omega.{arith}
+use Rattle.bits_nearest.specs.Found.{LastOne}
+use Rattle.nav_strings.proofs.Strings.{ready1}
+use Rattle.nav_sibling_range.proofs.Near.{near_left}
+use borrow.Author.Rules.{rules}
+use Rattle.nav_sibling_range.proofs.run_before.Goals as goal
+
+pub bits_at-requires : goal.bits_at-requires
+bits_at-requires c =
+    let r = ready1 c.args.b.now c.args.image c.requires.sound in
+    omega (arith, r.most)
+
+pub last_one-found-requires : goal.last_one-found-requires
+last_one-found-requires c =
+    let a = c.args in
+    let r = ready1 a.b.now a.image c.requires.sound in
+    record { n_bound = omega arith; at_in_bounds = omega (arith, r.most, r.room) }
+
+pub overflow_sub-result : goal.overflow_sub-result
+overflow_sub-result c = omega arith
+
+pub overflow_add-result : goal.overflow_add-result
+overflow_add-result c = omega (arith, c.last_one-found.ensures.within)
+
+pub returns : goal.returns
+returns c =
+    let found = c.last_one-found in
+    let bits = c.before.before in
+    near_left c.requires found.result (subst (λ p. LastOne c.args.b.now (8 * p) ((c.args.x - 1) % 4000) found.result) c.bits_at.ensures found.ensures) c.if-found-eq0.false
