@@ -45,7 +45,6 @@ overflow_add-longer-in-Passed-2 c = omega (arith, (sized (goal.at.overflow_add-l
 
 pub returns-then-pack-longer : goal.returns-then-pack-longer
 returns-then-pack-longer c =
-    let t = c.before.before.before.before in
     let a = c.args in
     let z = sized (goal.at.returns-then-pack-longer c).Else-join_sizes_wrong in
     let g = sym c.bad_entry-bad.ensures ∙ c.if-bad-ne0.false in

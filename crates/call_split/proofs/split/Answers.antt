@@ -27,7 +27,6 @@ returns-then-firsts-trees c =
 
 pub returns-then-counts-trees : goal.returns-then-counts-trees
 returns-then-counts-trees c =
-    let p = c.before.before.before in
     let a = c.args in
     answered c.refuse-then-counts-trees.ensures
     (split_sizes a.bytes.now a.bits a.trees a.firsts.now a.counts.now (sized (goal.at.returns-then-counts-trees c).Else-split_sizes_wrong) (sym c.in-Passed.is ∙ c.check_and_note-held.ensures.value)

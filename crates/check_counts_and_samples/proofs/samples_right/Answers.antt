@@ -22,7 +22,6 @@ block_sampled-requires c =
 
 pub returns-then-not-block_sampled : goal.returns-then-not-block_sampled
 returns-then-not-block_sampled c =
-    let found = c.before.before in
     let a = c.args in
     let b = a.b.now in
     let j = c.last_block-last.result in
@@ -37,7 +36,6 @@ words_zero-requires c =
 
 pub returns : goal.returns
 returns c =
-    let found = c.before.before.before in
     let a = c.args in
     let b = a.b.now in
     let count = c.requires.m_value in

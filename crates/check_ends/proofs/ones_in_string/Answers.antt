@@ -31,7 +31,6 @@ ones_from-requires c = omega (arith, c.last_block-last.ensures)
 
 pub overflow_add-result : goal.overflow_add-result
 overflow_add-result c =
-    let found = c.before.before in
     let a = c.args in
     let b = a.b.now in
     let j = c.last_block-last.result in
@@ -39,7 +38,6 @@ overflow_add-result c =
 
 pub returns : goal.returns
 returns c =
-    let found = c.before.before in
     let a = c.args in
     let b = a.b.now in
     let j = c.last_block-last.result in

@@ -27,7 +27,6 @@ rest_zero-requires c = record { used_bound = omega (arith, c.last_block-last.ens
 
 pub returns : goal.returns
 returns c =
-    let found = c.before.before in
     let a = c.args in
     let last = (a.n - 1) / 4000 in
     let rest =

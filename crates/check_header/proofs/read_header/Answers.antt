@@ -16,8 +16,6 @@ runs c = decides_held c.runs_fit.result _ c.runs_fit.ensures c.if-not-runs_fit.f
 
 pub returns-then-not-runs_fit : goal.returns-then-not-runs_fit
 returns-then-not-runs_fit c =
-    let second = c.before.before.before.before in
-    let first = second.before in
     let a = c.args in
     λ h. decides_missed c.runs_fit.result _ c.runs_fit.ensures c.if-not-runs_fit.true
     (header-runs a.b.now a.blocks c.word-n.result c.word-m.result c.requires.b_len c.word-n.ensures c.word-m.ensures h)
@@ -27,9 +25,6 @@ layout_of-layout-requires c = let r = runs (goal.at.layout_of-layout-requires c)
 
 pub returns-then-layout-blocks : goal.returns-then-layout-blocks
 returns-then-layout-blocks c =
-    let l = c.before.before in
-    let second = l.before.before.before.before.before.before.before.before in
-    let first = second.before in
     let a = c.args in
     λ h. c.if-layout-blocks.true
     (ap (λ (i : Layout). i.blocks) c.layout_of-layout.ensures
@@ -42,13 +37,7 @@ returns-then-not-all_zero c =
 
 pub returns : goal.returns
 returns c =
-    let l = c.before.before.before.before in
     let version = c.word-2.ensures in
-    let count = l.before.before in
-    let fit = count.before.before in
-    let most = fit.before.before in
-    let second = most.before.before in
-    let first = second.before in
     let a = c.args in
     let counted = sym c.word.ensures ∙ c.if-word-blocks.false in
     let needed = ap (λ v. blocks_needed v c.word-n.result c.word-m.result) (sym version) ∙ sym (ap (λ (i : Layout). i.blocks) c.layout_of-layout.ensures) ∙ c.if-layout-blocks.false in

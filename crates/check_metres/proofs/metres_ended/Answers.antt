@@ -17,7 +17,6 @@ returns-in_default c =
 
 pub list_ended-requires : goal.list_ended-requires
 list_ended-requires c =
-    let k = c.before.before in
     let laid = c.requires in
     let room = subst (λ m. MetresFit c.args.b.now m c.args.layout.nodes) c.in-From.is laid.metres_room in
     record { count_bound = omega (arith, laid.most); block_le_most_block = omega (arith, laid.small); count_in_bounds = room }

@@ -57,7 +57,6 @@ returns-then-samples_ahead-2 c = by_samples (goal.at.returns-then-samples_ahead-
 
 pub block_in_step-requires : goal.block_in_step-requires
 block_in_step-requires c =
-    let w = c.before.before.before.before in
     let j = c.args.j in
     let count1 = c.word-ones1.ensures ∙ c.requires.counted j (omega arith) in
     let count0 = c.word-ones0.ensures ∙ c.requires.counted_2 j (omega arith) in

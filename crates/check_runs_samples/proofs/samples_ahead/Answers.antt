@@ -54,7 +54,6 @@ loop-s-smaller c = omega arith
 
 pub loop-s-preserved : goal.loop-s-preserved
 loop-s-preserved c =
-    let second = c.before in
     let l = c.loop-s in
     let ahead = c.word.ensures ∙ ap (word_at _) c.sample_at-in-loop-s.ensures in
     let own = c.word-own.ensures ∙ ap (word_at _) c.sample_at.ensures in (

@@ -12,7 +12,6 @@ returns-in_default c =
 
 pub wrong_after_list-requires : goal.wrong_after_list-requires
 wrong_after_list-requires c =
-    let k = c.before.before in
     let laid = c.requires in
     let room = subst (λ m. MetresFit c.args.b.now m c.args.layout.nodes) c.in-From.is laid.metres_room in
     record { le_count = laid.some; count_bound = laid.most; block_le_most_block = omega (arith, laid.small); count_in_bounds = room }

@@ -46,7 +46,6 @@ wrong_in_string-in_r0-requires c =
 
 pub returns-then-in_r0-ne0 : goal.returns-then-in_r0-ne0
 returns-then-in_r0-ne0 c =
-    let e1 = c.before.before in
     let r1 = c.wrong_in_string-in_r1 in
     let r0 = c.wrong_in_string-in_r0 in
     named-R0 c.args.b.now c.args.layout (are (goal.at.returns-then-in_r0-ne0 c).After-shared_slice_known-1) c.requires.laid_out c.requires.layout_value
@@ -54,8 +53,6 @@ returns-then-in_r0-ne0 c =
 
 pub returns-then-after_r1-ne0 : goal.returns-then-after_r1-ne0
 returns-then-after_r1-ne0 c =
-    let e0 = c.before.before.before.before.before in
-    let e1 = e0.before.before in
     let r1 = c.wrong_in_string-in_r1 in
     let r0 = c.wrong_in_string-in_r0 in
     named_S1 c.args.b.now c.args.layout (are (goal.at.returns-then-after_r1-ne0 c).After-shared_slice_known-1) c.requires.laid_out c.requires.layout_value
@@ -64,16 +61,12 @@ returns-then-after_r1-ne0 c =
 
 pub wrong_after_list-after_r0-requires : goal.wrong_after_list-after_r0-requires
 wrong_after_list-after_r0-requires c =
-    let s = c.before.before.before.before in
     let p = c.requires in
     let e = c.samples_of-samples.ensures in
     record { le_count = omega (arith, e, p.le_runs); count_bound = omega (arith, e, p.runs_bound); block_le_most_block = omega (arith, p.laid_out); count_in_bounds = omega (arith, e, p.laid_out) }
 
 pub returns-then-after_r0-ne0 : goal.returns-then-after_r0-ne0
 returns-then-after_r0-ne0 c =
-    let f = c.before.before.before in
-    let e0 = f.before.before.before.before.before in
-    let e1 = e0.before.before in
     let r1 = c.wrong_in_string-in_r1 in
     let r0 = c.wrong_in_string-in_r0 in
     named_S0 c.args.b.now c.args.layout (are (goal.at.returns-then-after_r0-ne0 c).After-shared_slice_known-1) c.requires.laid_out c.requires.layout_value
@@ -83,10 +76,6 @@ returns-then-after_r0-ne0 c =
 
 pub returns : goal.returns
 returns c =
-    let g = c.before in
-    let f = g.before.before.before in
-    let e0 = f.before.before.before.before.before in
-    let e1 = e0.before.before in
     let r1 = c.wrong_in_string-in_r1 in
     let r0 = c.wrong_in_string-in_r0 in
     named-metres c.args.b.now c.args.layout (are (goal.at.returns c).After-shared_slice_known-1) c.requires.laid_out c.requires.layout_value

@@ -50,7 +50,6 @@ rest_zero-requires c = record { used_bound = omega (arith, c.last_block-last.ens
 
 pub returns-then-rest_zero : goal.returns-then-rest_zero
 returns-then-rest_zero c =
-    let e = c.before.before.before.before in
     let a = c.args in
     none_wrong a.b.now a.bits_block a.n c.requires.le_n 0 (counted (goal.at.returns-then-rest_zero c).Else-miscounted-ne0)
     (subst (λ t. Decides t (Unused a.b.now (512 * (a.bits_block + (a.n - 1) / 4000) + 4) (a.n - 4000 * ((a.n - 1) / 4000)))) c.if-rest_zero.true (rest (goal.at.returns-then-rest_zero c).After-rest_zero)) (omega arith)
@@ -63,7 +62,6 @@ overflow_cast-result c = omega (arith, c.last_block-last.ensures)
 
 pub returns : goal.returns
 returns c =
-    let e = c.before.before.before.before in
     let a = c.args in
     wrong_rest a.b.now a.bits_block a.n c.requires.le_n (a.bits_block + c.last_block-last.result) (counted (goal.at.returns c).Else-miscounted-ne0)
     (subst (λ t. Decides t (Unused a.b.now (512 * (a.bits_block + (a.n - 1) / 4000) + 4) (a.n - 4000 * ((a.n - 1) / 4000)))) c.if-rest_zero.false (rest (goal.at.returns c).After-rest_zero))

@@ -110,7 +110,6 @@ overflow_cast-result c = omega (arith, c.loop-s-test.true)
 
 pub returns-then-word-place : goal.returns-then-word-place
 returns-then-word-place c =
-    let l = c.before.before.before.before.before in
     let a = c.args in
     let x = c.select_after-place in
     wrong_sample_lem a.b.now a.samples a.m (string_in a.b.now a.bits_block 0 a.n) c.requires.m_value c.loop-s.s (a.samples + c.loop-s.s / 126)
@@ -142,7 +141,6 @@ loop-s-preserved c =
 
 pub returns : goal.returns
 returns c =
-    let l = c.before in
     let a = c.args in
     none_wrong a.b.now a.samples a.m (string_in a.b.now a.bits_block 0 a.n) c.requires.m_value 0
     (λ q h. c.loop-s.invariant.4 q (omega (arith, c.loop-s-test.false))) c.requires.by_index (omega arith)

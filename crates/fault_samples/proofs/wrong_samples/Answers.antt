@@ -26,7 +26,6 @@ wrong_in_samples-requires c =
 
 pub returns : goal.returns
 returns c =
-    let e = c.before.before in
     let s1 = c.wrong_in_samples-of_r1 in
     let s0 = c.wrong_in_samples in
     named_S0 c.args.b.now c.args.layout (are (goal.at.returns c).After-shared_slice_known-1) c.requires.laid_out c.requires.layout_value c.requires.all_but_samples

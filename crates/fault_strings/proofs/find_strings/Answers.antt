@@ -19,7 +19,6 @@ pub returns : goal.returns
 returns c =
     let b = c.args.b.now in
     let layout = c.args.layout in
-    let e0 = c.before in
     let bit1 = c.string_bit in
     let bit0 = c.string_bit-2 in
     finds_same c.step_counted.result (StringsGiven b layout) (StepCounted b layout.r0_block layout.nodes layout.runs) b layout.r0_block layout.nodes

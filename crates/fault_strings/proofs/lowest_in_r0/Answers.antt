@@ -39,7 +39,6 @@ lowest_wrong-requires c = omega (arith, c.last_block-last.ensures)
 -- one block more, and all blocks before it are full
 pub returns : goal.returns
 returns c =
-    let e = c.before.before in
     let a = c.args in
     let last = c.last_block-last in
     let k = string_blocks a.n in

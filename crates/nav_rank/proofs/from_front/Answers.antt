@@ -50,7 +50,6 @@ overflow_add-result-2 c = omega arith
 
 pub returns : goal.returns
 returns c =
-    let bits = c.before.before.before in
     let a = c.args in
     let p = c.requires in
     let at = c.bits_at-start.ensures in

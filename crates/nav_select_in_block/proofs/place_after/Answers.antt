@@ -73,7 +73,6 @@ overflow_add-result c =
 
 pub returns : goal.returns
 returns c =
-    let bits = c.before.before.before in
     let a = c.args in
     let at = c.bits_at.result + a.i % 4000 / 8 in
     let front = c.ones_in_front-passed in

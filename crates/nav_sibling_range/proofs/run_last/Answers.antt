@@ -27,5 +27,4 @@ overflow_add-result c = omega (arith, c.first_one-found.ensures.within)
 pub returns : goal.returns
 returns c =
     let found = c.first_one-found in
-    let bits = c.before.before in
     near_right c.requires found.result (subst (λ p. FirstOne c.args.b.now (8 * p) ((c.args.x - 1) % 4000) found.result) c.bits_at.ensures found.ensures) c.if-found-eq4000.false

@@ -22,9 +22,6 @@ put-requires c =
 
 pub returns : goal.returns
 returns c =
-    let p = c.before.before in
-    let q = p.before.before.before.before.before in
-    let r = q.before.before.before.before.before in
     let i = c.args.image in
     put_as (heading_pieces i.nodes i.runs i.blocks)
     (both_put c.put_field-nodes.ensures (both_put c.put_field-marks.ensures (both_put c.put_field-blocks.ensures c.put.ensures)))

@@ -15,7 +15,5 @@ put-requires c = omega (arith, refusal-size c.args.a)
 
 pub returns : goal.returns
 returns c =
-    let p = c.before.before in
-    let q = p.before.before.before.before.before in
     put_as (refusal_pieces c.args.a)
     (both_put c.put_field-code.ensures (both_put c.put_field-place.ensures c.put.ensures))

@@ -8,9 +8,6 @@ use Rattle.pack_check.proofs.check_and_note.Goals as goal
 
 pub returns : goal.returns
 returns c =
-    let n = c.before.before in
-    let p = n.before.before.before in
-    let s = p.before.before.before.before.before in
     let a = c.args in
     let leftover = c.row-leftover.ensures ∙ ap (λ b. alone (5 at 0 when b)) c.leftover_set.ensures in
     let string = c.row-string.ensures ∙ ap (λ x. alone (4 at x when not (eqb x 0))) c.place_in-place.ensures in

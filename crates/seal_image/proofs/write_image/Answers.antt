@@ -11,7 +11,6 @@ use Rattle.seal_image.proofs.write_image.Goals as goal
 
 pub seal_blocks-requires : goal.seal_blocks-requires
 seal_blocks-requires c =
-    let filled = c.before.before.before.before in
     let a = c.args in
     let p = c.requires in
     let runs = few-runs a.ps.now (good_parents _ p.in_bounds p.ps_value) in
@@ -22,8 +21,6 @@ seal_blocks-requires c =
 
 pub returns : goal.returns
 returns c =
-    let known = c.before.before.before.before.before in
-    let filled = known.before.before in
     let a = c.args in
     let p = c.requires in
     let blocks = ap (λ (l : Layout). l.blocks) p.layout_value in

@@ -13,8 +13,6 @@ loop-w-init c = (omega arith, putting_here _ _ _ _ _ _ c.loop-j.invariant.1 (ome
 
 pub loop-w-preserved : goal.loop-w-preserved
 loop-w-preserved c =
-    let put = c.before.before in
-    let inner = put.before.before.before.before in
     let known = c.type_inv.metres (126 * c.loop-j.j + c.loop-w.w) in
     (omega arith, putting_next _ _ _ _ _ _ c.loop-w.invariant.1 (omega arith) (omega arith) (omega (arith, known)) (omega (arith, c.loop-j.invariant.1.kept)) _ c.put_word.ensures)
 

@@ -55,8 +55,6 @@ returns-in-Refused c =
 
 pub returns-else-image-layout : goal.returns-else-image-layout
 returns-else-image-layout c =
-    let made = c.before.before.before in
-    let l = made.before.before.before.before in
     let blocks = ap (λ (i : Layout). i.blocks) (laid (goal.at.returns-else-image-layout c).After-layout_of-layout) in
     seal_made c.args.metres.now c.args.parents.now c.args.image.now c.requires (passed (goal.at.returns-else-image-layout c).In-Passed) (laid (goal.at.returns-else-image-layout c).After-layout_of-layout) (omega (arith, blocks, c.if-image-layout.false))
     c.done.ensures c.write_image.ensures

@@ -16,7 +16,6 @@ loop-s-init c =
 
 pub overflow_sub-place : goal.overflow_sub-place
 overflow_sub-place c =
-    let at = c.before.before.before.before.before in
     let a = c.args in
     let are = good_parents a.ps.now c.requires.in_bounds c.requires.ps_value in
     (following_place a.ps.now a.image.now c.loop-s.image a.r1_samples a.r0_samples c.loop-s.s are c.loop-s.invariant c.requires.r1samples_known (omega arith)
@@ -24,7 +23,6 @@ overflow_sub-place c =
 
 pub next_entry-next-requires : goal.next_entry-next-requires
 next_entry-next-requires c =
-    let at = c.before.before.before.before.before in
     let a = c.args in
     let are = good_parents a.ps.now c.requires.in_bounds c.requires.ps_value in
     let f =
@@ -34,8 +32,6 @@ next_entry-next-requires c =
 
 pub overflow_cast-next : goal.overflow_cast-next
 overflow_cast-next c =
-    let wide = c.before.before.before in
-    let at = wide.before.before.before.before.before in
     let a = c.args in
     let are = good_parents a.ps.now c.requires.in_bounds c.requires.ps_value in
     omega (
@@ -48,11 +44,6 @@ overflow_cast-next c =
 
 pub loop-s-preserved : goal.loop-s-preserved
 loop-s-preserved c =
-    let sampled = c.before.before.before in
-    let next = sampled.before.before in
-    let wide = next.before in
-    let in-loop = wide.before.before.before.before in
-    let at = in-loop.before in
     let more = c.loop-s-test.true in
     let apart = c.requires.m_bound in
     let fits = c.requires.m_in_bounds in
@@ -69,7 +60,6 @@ shape_of-image c = c.loop-s.invariant.kept
 
 pub returns : goal.returns
 returns c =
-    let at = c.before in
     let a = c.args in
     let are = good_parents a.ps.now c.requires.in_bounds c.requires.ps_value in
     following_last a.ps.now a.image.now c.loop-s.image a.r1_samples a.r0_samples c.loop-s.s are c.loop-s.invariant (omega arith)

@@ -12,7 +12,6 @@ loop-b-init c =
 
 pub write_r1_byte-k-requires : goal.write_r1_byte-k-requires
 write_r1_byte-k-requires c =
-    let at = c.before.before.before in
     let a = c.args in
     let are = good_parents a.ps.now c.requires.in_bounds c.requires.ps_value in
     let within =
@@ -23,7 +22,6 @@ write_r1_byte-k-requires c =
 
 pub loop-b-preserved : goal.loop-b-preserved
 loop-b-preserved c =
-    let at = c.before.before.before.before.before.before in
     let a = c.args in
     let are = good_parents a.ps.now c.requires.in_bounds c.requires.ps_value in
     ending_next a.ps.now a.image.now c.loop-b.image a.samples c.loop-b.b c.loop-b.k are c.loop-b.invariant _ c.r1_byte-x.ensures
@@ -35,7 +33,6 @@ shape_of-image c = c.loop-b.invariant.kept
 
 pub returns : goal.returns
 returns c =
-    let at = c.before in
     let a = c.args in
     let are = good_parents a.ps.now c.requires.in_bounds c.requires.ps_value in
     ending_last a.ps.now a.image.now c.loop-b.image a.samples c.loop-b.b c.loop-b.k are c.loop-b.invariant c.loop-b-test.false

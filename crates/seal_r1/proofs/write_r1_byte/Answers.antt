@@ -25,7 +25,6 @@ overflow_add-b-2 c =
 
 pub put_word-requires : goal.put_word-requires
 put_word-requires c =
-    let counted = c.before.before.before.before in
     let a = c.args in
     let ones = c.wide-ones.ensures ∙ c.ones_in_byte.ensures in
     omega (arith, ones, length-set a.image.now (c.bits_at.result + a.b % 500) a.x)
@@ -53,14 +52,12 @@ marked c =
 
 pub shape_of-image : goal.shape_of-image
 shape_of-image c =
-    let put = c.before.before in
     let a = c.args in
     ap length (c.put_word.ensures ∙ marked (goal.at.shape_of-image c).After-put_word)
     ∙ byte_length a.image.now a.samples a.b a.x a.k c.requires.x_in_bounds
 
 pub returns : goal.returns
 returns c =
-    let put = c.before.before in
     let a = c.args in
     let ones = c.wide-ones.ensures ∙ c.ones_in_byte.ensures in
     (ap (λ n. a.k + n) ones, c.put_word.ensures ∙ marked (goal.at.returns c).After-put_word)

@@ -13,7 +13,6 @@ loop-i-init c = (omega arith, omega arith, refl)
 
 pub overflow_add-k : goal.overflow_add-k
 overflow_add-k c =
-    let at = c.before.before.before.before.before in
     let few = counted-few c.args.ps.now (good_parents _ c.requires.in_bounds c.requires.ps_value) c.loop-i.i c.loop-i.k c.loop-i.invariant.2 c.loop-i.invariant.0 c.loop-i.invariant.1 in
     omega (arith, few, c.wide_byte-k.ensures, c.differ.ensures.1)
 
@@ -28,5 +27,4 @@ loop-i-preserved c =
 
 pub returns : goal.returns
 returns c =
-    let at = c.before in
     counted-all c.args.ps.now (good_parents _ c.requires.in_bounds c.requires.ps_value) c.loop-i.i c.loop-i.k c.loop-i.invariant.2 c.loop-i.invariant.0 (omega arith)

@@ -15,13 +15,11 @@ loop-j-init c = (omega arith, refl)
 
 pub overflow_mul-x : goal.overflow_mul-x
 overflow_mul-x c =
-    let at = c.before in
     let s = shifted_small (R1 (string_of c.args.ps.now)) c.args.i c.loop-j.j c.loop-j.x c.loop-j-test.true c.loop-j.invariant.1 in
     omega arith
 
 pub overflow_add-x : goal.overflow_add-x
 overflow_add-x c =
-    let at = c.before.before.before.before in
     omega (
       arith,
       shifted_small (R1 (string_of c.args.ps.now)) c.args.i c.loop-j.j c.loop-j.x c.loop-j-test.true c.loop-j.invariant.1,
@@ -38,5 +36,4 @@ loop-j-preserved c =
 
 pub returns : goal.returns
 returns c =
-    let at = c.before in
     c.loop-j.invariant.1 ∙ ap (λ n. number n (drop c.args.i (R1 (string_of c.args.ps.now)))) (let e : c.loop-j.j ≡ 8 = omega arith in e)

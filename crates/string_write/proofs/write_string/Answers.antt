@@ -42,7 +42,6 @@ loop-i-smaller c = omega arith
 
 pub loop-i-preserved : goal.loop-i-preserved
 loop-i-preserved c =
-    let a = c.before.before.before.before.before.before.before in
     marked_next _ _ _ _ _ c.loop-i.invariant c.loop-i-test.true _ _ c.set_bit.ensures
     c.wide.ensures (λ i h. omega (arith, c.slice_known-2-1.given i)) (omega (arith, c.blank.auto.buf))
 

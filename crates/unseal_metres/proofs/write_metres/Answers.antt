@@ -13,7 +13,6 @@ loop-w-init c = (omega arith, copying_here _ _ _ _ _ _ c.loop-j.invariant.1 (ome
 
 pub loop-w-preserved : goal.loop-w-preserved
 loop-w-preserved c =
-    let inner = c.before.before in
     (omega arith, copying_next _ _ _ _ _ _ c.loop-w.invariant.1 (omega arith) (omega (arith, c.loop-j.invariant.1.kept)) _ c.word.ensures)
 
 pub loop-j-preserved : goal.loop-j-preserved

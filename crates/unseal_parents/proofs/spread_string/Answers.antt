@@ -28,7 +28,6 @@ overflow_mul-j c = omega arith
 
 pub spread_block-from-requires : goal.spread_block-from-requires
 spread_block-from-requires c =
-    let bits = c.before in
     let a = c.args in
     let o = c.loop-j in
     let b = a.b.now in
@@ -48,7 +47,6 @@ loop-j-smaller c = omega arith
 pub loop-j-preserved : goal.loop-j-preserved
 loop-j-preserved c =
     let f = c.spread_block-from in
-    let bits = c.before.before.before.before in
     let a = c.args in
     let o = c.loop-j in
     let b = a.b.now in
@@ -73,7 +71,6 @@ overflow_mul-j-2 c = omega arith
 
 pub spread_block-requires : goal.spread_block-requires
 spread_block-requires c =
-    let bits = c.before in
     let a = c.args in
     let o = c.loop-j in
     let b = a.b.now in
@@ -90,7 +87,6 @@ shape_of-out c = c.spread_block.auto.out ∙ c.loop-j.invariant.1.size
 pub returns : goal.returns
 returns c =
     let f = c.spread_block in
-    let bits = c.before.before.before.before in
     let a = c.args in
     let o = c.loop-j in
     let b = a.b.now in

@@ -20,7 +20,6 @@ overflow_mul-j c = omega arith
 
 pub write_block_positions-low-requires : goal.write_block_positions-low-requires
 write_block_positions-low-requires c =
-    let bits = c.before in
     let a = c.args in
     let p = c.requires in
     let b = a.b.now in
@@ -37,7 +36,6 @@ write_block_positions-low-requires c =
 
 pub loop-j-init : goal.loop-j-init
 loop-j-init c =
-    let bits = c.before.before.before.before in
     let a = c.args in
     let p = c.requires in
     let f = c.write_block_positions-low in
@@ -68,8 +66,6 @@ overflow_mul-j-in-loop-j c = omega arith
 
 pub write_block_positions-low-requires-in-loop-j : goal.write_block_positions-low-requires-in-loop-j
 write_block_positions-low-requires-in-loop-j c =
-    let bits = c.before in
-    let at = bits.before.before in
     let a = c.args in
     let p = c.requires in
     let o = c.loop-j in
@@ -91,7 +87,6 @@ loop-j-smaller c = omega arith
 pub loop-j-preserved : goal.loop-j-preserved
 loop-j-preserved c =
     let f = c.write_block_positions-low-in-loop-j in
-    let bits = c.before.before.before.before in
     let a = c.args in
     let o = c.loop-j in
     let b = a.b.now in
@@ -111,7 +106,6 @@ shape_of-out c = c.loop-j.invariant.1.size ∙ c.write_block_positions-low.auto.
 pub returns : goal.returns
 returns c =
     let f = c.write_block_positions-low in
-    let bits = c.before.before.before.before.before.before in
     let a = c.args in
     let p = c.requires in
     let o = c.loop-j in
