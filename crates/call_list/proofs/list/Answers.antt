@@ -1,0 +1,82 @@
+use mathlib.Core.Path.{◌≡◌, refl, sym, ap, ◌∙◌}
+use native.Mathlib.Nat.{pos_of_ne-zero}
+use Rattle.meaning.specs.Answers.{came_to}
+use Rattle.image_found.specs.declared.Checked.TheVariants.{Sound}
+use Rattle.image_found.specs.Checked.{answered, checked}
+use Rattle.nav_strings.specs.Nodes.{IsNode}
+use Rattle.list_write.proofs.Writing.{to_list}
+use Rattle.call_list.proofs.Calling.{list_refused, list_zero, list_beyond, list_deep, list_short, list_room, list_given, where_fits}
+use borrow.Author.Rules.{rules}
+use Rattle.call_list.proofs.list.Goals as goal
+use Rattle.call_list.proofs.list.Goals.{Else-image-node, In-Sound}
+
+-- the image that the check found
+sound : (c : goal.In-Sound) → checked c.args.b.now ≡ Sound c.in-Sound.image
+sound c = sym c.check-found.ensures ∙ c.in-Sound.is
+
+-- a node of it
+node : (e : goal.Else-image-node)
+    → let a = e.args in IsNode a.b.now e.in-Sound.image a.node
+node e = record { sound = sym e.check-found.ensures ∙ e.in-Sound.is; some = pos_of_ne-zero e.if-node-eq0.false; most = e.if-image-node.false }
+
+pub returns-in_default : goal.returns-in_default
+returns-in_default c =
+    let a = c.args in
+    let told = c.in_default.is in
+    ap (λ r. came_to r a.out.now) (c.answer_of.ensures ∙ ap answered told)
+    ∙ list_refused a.b.now a.node a.out.now _ (sym c.check-found.ensures ∙ told)
+
+pub returns-then-node-eq0 : goal.returns-then-node-eq0
+returns-then-node-eq0 c =
+    let a = c.args in
+    ap (λ r. came_to r a.out.now) c.refuse.ensures
+    ∙ list_zero a.b.now a.node a.out.now c.in-Sound.image (sound (goal.at.returns-then-node-eq0 c).In-Sound) c.if-node-eq0.true
+
+pub returns-then-image-node : goal.returns-then-image-node
+returns-then-image-node c =
+    let a = c.args in
+    ap (λ r. came_to r a.out.now) c.refuse-then-image-node.ensures
+    ∙ list_beyond a.b.now a.node a.out.now c.in-Sound.image (sound (goal.at.returns-then-image-node c).In-Sound) c.if-image-node.true
+
+pub measure-requires : goal.measure-requires
+measure-requires c = record { node = node (goal.at.measure-requires c).Else-image-node; cursors_len = refl }
+
+pub returns-then-out-nodes : goal.returns-then-out-nodes
+returns-then-out-nodes c =
+    let n = c.before.before.before in
+    let e = n.before.before.before.before in
+    let a = c.args in
+    ap (λ r. came_to r a.out.now) c.refuse-then-out-nodes.ensures
+    ∙ list_short a.b.now a.node a.out.now c.in-Sound.image (sound (goal.at.returns-then-out-nodes c).In-Sound) (pos_of_ne-zero c.if-node-eq0.false) c.if-image-node.false
+    c.in-Fits.nodes (sym c.in-Fits.is ∙ c.measure.ensures.value) c.if-out-nodes.true
+
+pub list_node-requires : goal.list_node-requires
+list_node-requires c =
+    let f = c.before.before.before in
+    let n = f.before.before in
+    let e = n.before.before.before.before in
+    let a = c.args in
+    let measured = c.measure.ensures in
+    let room =
+    list_room a.b.now a.node a.out.now c.in-Sound.image (sound (goal.at.list_node-requires c).In-Sound) (node (goal.at.list_node-requires c).Else-image-node).some c.if-image-node.false
+    c.in-Fits.nodes (sym c.in-Fits.is ∙ measured.value) c.if-out-nodes.false in
+    to_list (node (goal.at.list_node-requires c).Else-image-node) _ a.out.now measured.cursors_len_2 (where_fits _ _ c.in-Fits.is measured.where_fits) room
+
+pub returns-in-TooDeep : goal.returns-in-TooDeep
+returns-in-TooDeep c =
+    let f = c.before.before in
+    let e = f.before.before.before.before in
+    let a = c.args in
+    ap (λ r. came_to r a.out.now) c.refuse-in-TooDeep.ensures
+    ∙ list_deep a.b.now a.node a.out.now c.in-Sound.image (sound (goal.at.returns-in-TooDeep c).In-Sound) (pos_of_ne-zero c.if-node-eq0.false) c.if-image-node.false
+    c.in-TooDeep.first (sym c.in-TooDeep.is ∙ c.measure.ensures.value)
+
+pub returns-else-out-nodes : goal.returns-else-out-nodes
+returns-else-out-nodes c =
+    let w = c.before.before.before in
+    let f = w.before.before.before.before in
+    let n = f.before.before in
+    let e = n.before.before.before.before in
+    let a = c.args in
+    list_given a.b.now a.node a.out.now c.in-Sound.image (sound (goal.at.returns-else-out-nodes c).In-Sound) (pos_of_ne-zero c.if-node-eq0.false) c.if-image-node.false
+    c.in-Fits.nodes (sym c.in-Fits.is ∙ c.measure.ensures.value) c.if-out-nodes.false _ _ c.done.ensures c.list_node.ensures.pairs
