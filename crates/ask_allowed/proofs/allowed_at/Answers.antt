@@ -4,7 +4,6 @@ use lib.IntN.{pos}
 use Rattle.meaning.specs.Questions.{kind_of, number_of, allowed_kind}
 use Rattle.ask_allowed.specs.Asked.{question_at}
 use Rattle.ask_allowed.proofs.Allowing.{node_none, node_beyond, node_right}
-use borrow.Author.Rules.{rules}
 use Rattle.ask_allowed.proofs.allowed_at.Goals as goal
 
 pub returns-then-node-lt1 : goal.returns-then-node-lt1

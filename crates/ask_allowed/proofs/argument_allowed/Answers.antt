@@ -1,9 +1,7 @@
 use mathlib.Core.Path.{sym, ◌∙◌}
 use native.Mathlib.Omega.{arith}
-use borrow.Author.Tests.{not-true, not-false}
 use Rattle.ask_allowed.proofs.Signs.{zero-size}
 use Rattle.ask_allowed.proofs.Allowing.{kind_none, kind_beyond, kind_without, kind_plain}
-use borrow.Author.Rules.{rules}
 use Rattle.ask_allowed.proofs.argument_allowed.Goals as goal
 use Rattle.ask_allowed.proofs.argument_allowed.Goals.{then-kind-eq11+else-not-metres, else-kind-eq11}
 

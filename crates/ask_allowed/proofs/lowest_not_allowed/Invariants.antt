@@ -1,10 +1,7 @@
 use Prim.Native.Nat.{◌*◌, ◌-◌, ◌≤◌}
-use mathlib.Core.Path.{◌≡◌, refl, sym, ◌∙◌}
-use borrow.Author.Tests.{not-true, not-false}
-use native.Mathlib.Omega.{arith}
+use mathlib.Core.Path.{◌≡◌}
 use lib.ListN.{drop}
 use Rattle.meaning.specs.Questions.{questions, not_allowed}
-use Rattle.ask_allowed.proofs.Turns.{bad-end, bad-here, bad-next}
 use Rattle.ask_allowed.proofs.lowest_not_allowed.Given as goal
 
 abbrev pub invariant-loop-i : goal.invariant-loop-i

@@ -1,6 +1,5 @@
 use mathlib.Core.Path.{sym}
 use Rattle.ask_allowed.proofs.Signs.{below_none}
-use borrow.Author.Rules.{rules}
 use Rattle.ask_allowed.proofs.number.Goals as goal
 
 pub returns-then-z : goal.returns-then-z

@@ -1,7 +1,6 @@
 use lib.IntN.{pos}
 use lib.ListN.{get_or}
 use Rattle.ask_allowed.proofs.Signs.{above_cast, above_value, widens, below_wide, below_cast, below-value}
-use borrow.Author.Rules.{rules}
 use Rattle.ask_allowed.proofs.signed_at.Goals as goal
 
 pub overflow_cast-wide : goal.overflow_cast-wide

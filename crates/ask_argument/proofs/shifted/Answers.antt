@@ -1,6 +1,5 @@
 use native.Mathlib.Omega.{arith}
 use Rattle.ask_argument.proofs.Moving.{moved_right, moved_left}
-use borrow.Author.Rules.{rules}
 use Rattle.ask_argument.proofs.shifted.Goals as goal
 
 pub returns-then-x-size : goal.returns-then-x-size

@@ -1,11 +1,8 @@
 use native.Mathlib.Omega.{arith}
-use mathlib.Core.Path.{◌≡◌}
-use Prim.Native.Nat.{ℕ, ◌≤◌, ◌<◌}
 use Rattle.meaning.specs.Image.{list_of, metres_in, parents_in}
 use Rattle.meaning.specs.Questions.{answer}
 use Rattle.ask_argument.specs.Values.{value_of}
-use Rattle.ask_kinds.proofs.Numbers.{of_kind, past}
-use borrow.Author.Rules.{rules}
+use Rattle.ask_kinds.proofs.Numbers.{of_kind}
 use Rattle.ask_kinds.proofs.answer_kind.Goals as goal
 
 pub returns-in-1 : goal.returns-in-1

@@ -1,10 +1,8 @@
-use mathlib.Core.Path.{◌≡◌, refl, ap, ◌∙◌}
-use Prim.Native.Nat.{◌+◌, ◌-◌, ◌/◌, ◌≤◌}
-use native.Mathlib.Omega.{arith}
-use lib.ListN.{length, set}
-use Rattle.meaning.specs.Bytes.{bytes_for}
+use mathlib.Core.Path.{◌≡◌}
+use Prim.Native.Nat.{◌-◌, ◌≤◌}
+use lib.ListN.{length}
 use Rattle.theory.specs.Layout.{AreBytes}
-use Rattle.bits_append.proofs.Writing.{cleared, clear_none, clear_length, clear_more, clear_all}
+use Rattle.bits_append.proofs.Writing.{cleared}
 use Rattle.bits_append.proofs.blank.Given as goal
 
 abbrev pub invariant-loop-j : goal.invariant-loop-j

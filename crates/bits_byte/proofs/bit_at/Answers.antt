@@ -1,4 +1,3 @@
-use borrow.Author.Rules.{rules}
 use Rattle.bits_byte.proofs.Values.{digit_value}
 use Rattle.bits_byte.proofs.bit_at.Goals as goal
 

@@ -1,6 +1,5 @@
 use mathlib.Core.Path.{ap, ◌∙◌}
 use native.Mathlib.Omega.{arith}
-use borrow.Author.Rules.{rules}
 use lib.ListN.{take, length-take}
 use Rattle.meaning.specs.Strings.{ones}
 use Rattle.bits_byte.specs.Byte.{byte_bits}

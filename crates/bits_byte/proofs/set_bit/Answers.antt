@@ -1,5 +1,4 @@
 use mathlib.Core.Path.{refl}
-use borrow.Author.Rules.{rules}
 use Rattle.bits_byte.specs.Lit.{lit}
 use Rattle.bits_byte.proofs.set_bit.Goals as goal
 

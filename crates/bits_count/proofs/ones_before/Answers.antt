@@ -1,4 +1,3 @@
-use borrow.Author.Rules.{rules}
 use Prim.Native.Nat.{◌*◌}
 use Rattle.bits_count.proofs.Words.{front-ones}
 use Rattle.bits_count.proofs.ones_before.Goals as goal

@@ -1,12 +1,7 @@
-use mathlib.Core.Path.{◌≡◌, ap, ap₂, ◌∙◌}
-use mathlib.Core.List.{[], ◌∷◌}
-use Prim.Native.Nat.{◌+◌, ◌-◌, ◌*◌, ◌/◌, ◌%◌, ◌≤◌}
-use native.Mathlib.Omega.{arith}
-use borrow.Author.Rules.{rules}
-use lib.ListN.{get_or}
+use mathlib.Core.Path.{◌≡◌}
+use Prim.Native.Nat.{◌-◌, ◌*◌, ◌≤◌}
 use Rattle.meaning.specs.Strings.{ones}
 use Rattle.meaning.specs.Bytes.{bits_from}
-use Rattle.bits_count.proofs.Runs.{no_bits, bits-ones-le, front-ones-le, eight_more, one_more, last_more}
 use Rattle.bits_count.proofs.ones_from.Given as goal
 
 abbrev pub invariant-loop-i : goal.invariant-loop-i

@@ -1,4 +1,3 @@
-use borrow.Author.Rules.{rules}
 use lib.Bits.{and_le_l}
 use Rattle.bits_count.proofs.Words.{without-ones}
 use Rattle.bits_count.proofs.ones_without.Goals as goal

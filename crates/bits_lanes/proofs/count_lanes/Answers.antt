@@ -1,6 +1,5 @@
 use mathlib.Core.Path.{◌≡◌, sym, ap, subst, ◌∙◌}
 use Prim.Native.Nat.{ℕ, ◌+◌, ◌^◌, ◌<◌}
-use borrow.Author.Rules.{rules}
 use native.Mathlib.Omega.{arith}
 use Rattle.bits_lanes.specs.Lanes.{each, ones_earlier}
 use Rattle.bits_lanes.proofs.Counts.{moved, two_on, four_on, moving, earlier_le}

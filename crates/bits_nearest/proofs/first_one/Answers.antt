@@ -1,6 +1,5 @@
-use Prim.Native.Nat.{◌+◌, ◌-◌, ◌*◌, ◌≤◌}
+use Prim.Native.Nat.{◌+◌, ◌*◌}
 use native.Mathlib.Omega.{arith}
-use Rattle.bits_nearest.specs.Found.{Clear}
 use Rattle.bits_nearest.proofs.Steps.{joined, earlier_found, none_from, first-lt, met_from}
 use Rattle.bits_nearest.proofs.first_one.Goals as goal
 

@@ -1,7 +1,5 @@
-use Prim.Native.Nat.{◌+◌, ◌-◌, ◌*◌, ◌≤◌}
-use native.Mathlib.Omega.{arith}
+use Prim.Native.Nat.{◌-◌, ◌*◌, ◌≤◌}
 use Rattle.bits_nearest.specs.Found.{Clear}
-use Rattle.bits_nearest.proofs.Steps.{joined, earlier_found, none_from, first-lt, met_from}
 use Rattle.bits_nearest.proofs.first_one.Given as goal
 
 abbrev pub invariant-loop-next : goal.invariant-loop-next

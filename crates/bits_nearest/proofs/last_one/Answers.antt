@@ -1,6 +1,5 @@
-use Prim.Native.Nat.{◌-◌, ◌*◌, ◌≤◌}
+use Prim.Native.Nat.{◌-◌, ◌*◌}
 use native.Mathlib.Omega.{arith}
-use Rattle.bits_nearest.specs.Found.{Clear}
 use Rattle.bits_nearest.proofs.Steps.{joined, later-found, none_to, behind-le, met_to}
 use Rattle.bits_nearest.proofs.last_one.Goals as goal
 

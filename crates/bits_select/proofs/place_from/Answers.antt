@@ -2,7 +2,6 @@ use mathlib.Core.Path.{◌≡◌, subst}
 use Prim.Native.Nat.{◌+◌, ◌-◌, ◌*◌}
 use native.Mathlib.Omega.{arith}
 use lib.ListN.{length}
-use Rattle.meaning.specs.Strings.{ones}
 use Rattle.meaning.specs.Bytes.{bits_from}
 use Rattle.theory.proofs.Packing.{bits-length, bits-cut}
 use Rattle.bits_count.proofs.Runs.{bits-ones-le}

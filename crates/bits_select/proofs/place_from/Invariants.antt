@@ -1,12 +1,9 @@
-use mathlib.Core.Path.{◌≡◌, subst}
-use Prim.Native.Nat.{◌+◌, ◌-◌, ◌*◌}
-use native.Mathlib.Omega.{arith}
+use mathlib.Core.Path.{◌≡◌}
+use Prim.Native.Nat.{◌-◌, ◌*◌}
 use lib.ListN.{length}
 use Rattle.meaning.specs.Strings.{ones}
 use Rattle.meaning.specs.Bytes.{bits_from}
-use Rattle.theory.proofs.Packing.{bits-length, bits-cut}
-use Rattle.bits_count.proofs.Runs.{bits-ones-le}
-use Rattle.bits_select.proofs.Reaching.{place-le, Reached, reached_first, reached_past, reached_place}
+use Rattle.bits_select.proofs.Reaching.{Reached}
 use Rattle.bits_select.proofs.place_from.Given as goal
 
 abbrev pub invariant-loop-here : goal.invariant-loop-here

@@ -1,4 +1,3 @@
-use borrow.Author.Rules.{rules}
 use native.Mathlib.Omega.{arith}
 use Rattle.theory.specs.Layout.{AreBytes}
 use Rattle.bits_word.proofs.Numbers.{four_bytes}

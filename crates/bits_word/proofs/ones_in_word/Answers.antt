@@ -1,5 +1,4 @@
 use mathlib.Core.Path.{ap, ◌∙◌}
-use borrow.Author.Rules.{rules}
 use lib.Count as count
 use Rattle.bits_word.proofs.EightBytes.{little-ones}
 use Rattle.bits_word.proofs.ones_in_word.Goals as goal

@@ -1,5 +1,4 @@
 use native.Mathlib.Omega.{arith}
-use borrow.Author.Rules.{rules}
 use Rattle.theory.specs.Layout.{AreBytes}
 use Rattle.bits_word.proofs.EightBytes.{glued}
 use Rattle.bits_word.proofs.stored_word.Goals as goal

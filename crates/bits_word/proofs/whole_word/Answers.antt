@@ -1,4 +1,3 @@
-use borrow.Author.Rules.{rules}
 use native.Mathlib.Omega.{arith}
 use Rattle.meaning.specs.Bytes.{bits_from}
 use Prim.Native.Nat.{◌+◌, ◌*◌}

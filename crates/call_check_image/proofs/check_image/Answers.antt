@@ -2,7 +2,6 @@ use mathlib.Core.Path.{sym, ap, ◌∙◌}
 use Rattle.meaning.specs.Answers.{came_to}
 use Rattle.image_found.specs.Checked.{answered}
 use Rattle.call_check_image.proofs.Calling.{image-answered}
-use borrow.Author.Rules.{rules}
 use Rattle.call_check_image.proofs.check_image.Goals as goal
 
 pub returns-in_default : goal.returns-in_default

@@ -1,5 +1,4 @@
 use Rattle.calls.specs.Calls.{image_of_parents}
-use borrow.Author.Rules.{rules}
 use Rattle.call_image_of_parents.proofs.image_of_parents.Goals as goal
 
 pub returns : goal.returns

@@ -1,7 +1,6 @@
 use mathlib.Core.Path.{◌∙◌}
 use Rattle.theory.proofs.Settled.{answered}
 use Rattle.call_image_with_metres.proofs.Lengths.{one_for_each, metres-refused, metres-given}
-use borrow.Author.Rules.{rules}
 use Rattle.call_image_with_metres.proofs.image_with_metres.Goals as goal
 
 pub returns-then-metres-parents : goal.returns-then-metres-parents

@@ -1,6 +1,5 @@
 use mathlib.Core.Path.{sym, ◌∙◌}
 use native.Mathlib.Omega.{arith}
-use borrow.Author.Rules.{rules}
 use lib.ListN.{length}
 use Rattle.theory.proofs.Lowest.{bad-within}
 use Rattle.parents_check.proofs.Rising.{good_parents}

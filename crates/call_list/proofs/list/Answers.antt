@@ -6,7 +6,6 @@ use Rattle.image_found.specs.Checked.{answered, checked}
 use Rattle.nav_strings.specs.Nodes.{IsNode}
 use Rattle.list_write.proofs.Writing.{to_list}
 use Rattle.call_list.proofs.Calling.{list_refused, list_zero, list_beyond, list_deep, list_short, list_room, list_given, where_fits}
-use borrow.Author.Rules.{rules}
 use Rattle.call_list.proofs.list.Goals as goal
 use Rattle.call_list.proofs.list.Goals.{Else-image-node, In-Sound}
 
@@ -43,8 +42,6 @@ measure-requires c = record { node = node (goal.at.measure-requires c).Else-imag
 
 pub returns-then-out-nodes : goal.returns-then-out-nodes
 returns-then-out-nodes c =
-    let n = c.before.before.before in
-    let e = n.before.before.before.before in
     let a = c.args in
     ap (λ r. came_to r a.out.now) c.refuse-then-out-nodes.ensures
     ∙ list_short a.b.now a.node a.out.now c.in-Sound.image (sound (goal.at.returns-then-out-nodes c).In-Sound) (pos_of_ne-zero c.if-node-eq0.false) c.if-image-node.false
@@ -52,9 +49,6 @@ returns-then-out-nodes c =
 
 pub list_node-requires : goal.list_node-requires
 list_node-requires c =
-    let f = c.before.before.before in
-    let n = f.before.before in
-    let e = n.before.before.before.before in
     let a = c.args in
     let measured = c.measure.ensures in
     let room =
@@ -64,8 +58,6 @@ list_node-requires c =
 
 pub returns-in-TooDeep : goal.returns-in-TooDeep
 returns-in-TooDeep c =
-    let f = c.before.before in
-    let e = f.before.before.before.before in
     let a = c.args in
     ap (λ r. came_to r a.out.now) c.refuse-in-TooDeep.ensures
     ∙ list_deep a.b.now a.node a.out.now c.in-Sound.image (sound (goal.at.returns-in-TooDeep c).In-Sound) (pos_of_ne-zero c.if-node-eq0.false) c.if-image-node.false
@@ -73,10 +65,6 @@ returns-in-TooDeep c =
 
 pub returns-else-out-nodes : goal.returns-else-out-nodes
 returns-else-out-nodes c =
-    let w = c.before.before.before in
-    let f = w.before.before.before.before in
-    let n = f.before.before in
-    let e = n.before.before.before.before in
     let a = c.args in
     list_given a.b.now a.node a.out.now c.in-Sound.image (sound (goal.at.returns-else-out-nodes c).In-Sound) (pos_of_ne-zero c.if-node-eq0.false) c.if-image-node.false
     c.in-Fits.nodes (sym c.in-Fits.is ∙ c.measure.ensures.value) c.if-out-nodes.false _ _ c.done.ensures c.list_node.ensures.pairs

@@ -5,7 +5,6 @@ use Rattle.image_layout.specs.declared.Layout.{Layout}
 use Rattle.image_found.specs.declared.Checked.TheVariants.{Sound}
 use Rattle.image_found.specs.Checked as found
 use Rattle.call_metres_of_image.proofs.Reading.{metres-refused, metres-absent, metres-room, metres-short, metres-given}
-use borrow.Author.Rules.{rules}
 use Rattle.call_metres_of_image.proofs.metres_of_image.Goals as goal
 use Rattle.call_metres_of_image.proofs.metres_of_image.Goals.{In-Sound}
 
@@ -18,35 +17,26 @@ sound k = sym k.check-found.ensures ∙ k.in-Sound.is
 
 pub returns-in_default : goal.returns-in_default
 returns-in_default c =
-    let t = c.before in
     let a = c.args in
     answered (c.answer_of.ensures ∙ ap found.answered c.in_default.is) (metres-refused a.b.now a.out.now _ (sym c.check-found.ensures ∙ c.in_default.is))
 
 pub returns-in_default-at : goal.returns-in_default-at
 returns-in_default-at c =
-    let t = c.before in
     let a = c.args in
     answered c.refuse.ensures (metres-absent a.b.now a.out.now (layout (goal.at.returns-in_default-at c).In-Sound) (sound (goal.at.returns-in_default-at c).In-Sound) c.in_default-at.is)
 
 pub returns-then-out-nodes : goal.returns-then-out-nodes
 returns-then-out-nodes c =
-    let test = c.before in
-    let m = test.before.before in
     let a = c.args in
     answered c.refuse-then-out-nodes.ensures (metres-short a.b.now a.out.now (layout (goal.at.returns-then-out-nodes c).In-Sound) (sound (goal.at.returns-then-out-nodes c).In-Sound) _ c.in-From.is c.if-out-nodes.true)
 
 pub write_metres-requires : goal.write_metres-requires
 write_metres-requires c =
-    let test = c.before in
-    let m = test.before.before in
     let a = c.args in
     let r = metres-room a.b.now a.out.now (layout (goal.at.write_metres-requires c).In-Sound) (sound (goal.at.write_metres-requires c).In-Sound) _ c.in-From.is in
     record { n_bound = r.0; block_le_most_block = r.1.0; n_in_bounds = r.1.1; n_in_bounds_2 = c.if-out-nodes.false }
 
 pub returns : goal.returns
 returns c =
-    let copied = c.before.before.before in
-    let test = copied.before.before in
-    let m = test.before.before in
     let a = c.args in
     ap₂ came_to c.done.ensures c.write_metres.ensures ∙ metres-given a.b.now a.out.now (layout (goal.at.returns c).In-Sound) (sound (goal.at.returns c).In-Sound) _ c.in-From.is c.if-out-nodes.false

@@ -3,7 +3,6 @@ use Rattle.meaning.specs.Answers.{came_to}
 use Rattle.image_found.specs.Checked.{answered}
 use Rattle.image_found.proofs.Finding.{sound_known}
 use Rattle.call_parents_of_image.proofs.Reading.{sound_fits, parents-refused, parents-short, parents-given}
-use borrow.Author.Rules.{rules}
 use Rattle.call_parents_of_image.proofs.parents_of_image.Goals as goal
 
 pub returns-in_default : goal.returns-in_default

@@ -3,7 +3,6 @@ use native.Mathlib.Omega.{arith}
 use Rattle.meaning.specs.Answers.{came_to}
 use Rattle.call_parents_of_string.proofs.Ending.{refused-place, refused-from, refused_to, over_to, over-size, over-place, over-whole}
 use Rattle.call_parents_of_string.proofs.Answers.{parents-long, parents_bytes, parents-leftover, parents-refused, parents-room, parents-made}
-use borrow.Author.Rules.{rules}
 use Rattle.call_parents_of_string.proofs.parents_of_string.Goals as goal
 
 pub returns-then-bits-gt-MOST_BITS : goal.returns-then-bits-gt-MOST_BITS

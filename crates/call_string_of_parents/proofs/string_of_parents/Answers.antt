@@ -1,6 +1,5 @@
 use mathlib.Core.Path.{◌≡◌, sym, ◌∙◌}
 use native.Mathlib.Omega.{arith}
-use borrow.Author.Rules.{rules}
 use Rattle.meaning.specs.declared.Verdict.TheVariants.{Passed}
 use Rattle.meaning.specs.Answers.{first_holding}
 use Rattle.meaning.specs.Tests.{parent_rows}

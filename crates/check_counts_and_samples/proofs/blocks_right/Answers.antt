@@ -1,13 +1,13 @@
 use mathlib.Core.Path.{◌≡◌, sym, ap, ◌∙◌}
-use Prim.Native.Nat.{◌+◌, ◌-◌, ◌*◌, ◌/◌, ◌≤◌}
+use Prim.Native.Nat.{◌+◌, ◌-◌, ◌*◌, ◌/◌}
 use native.Mathlib.Omega.{arith}
 use Rattle.theory.specs.Layout.{word_at}
 use Rattle.image_string.specs.Parts.{ones_to}
 use Rattle.image_string.proofs.Saying.{decides_held, decides_missed}
 use Rattle.image_string.proofs.Within.{within_join}
 use Rattle.image_string.proofs.Ones.{ones_to_mono, ones_to-le}
-use Rattle.image_string.proofs.Pieces.{CountedTo, counted_more}
-use Rattle.check_counts_and_samples.specs.Samples.{SampledAt, SampledWithin, BlockRight}
+use Rattle.image_string.proofs.Pieces.{counted_more}
+use Rattle.check_counts_and_samples.specs.Samples.{SampledAt, BlockRight}
 use Rattle.check_counts_and_samples.proofs.blocks_right.Goals as goal
 use Rattle.check_counts_and_samples.proofs.blocks_right.Goals.{After-word-end}
 

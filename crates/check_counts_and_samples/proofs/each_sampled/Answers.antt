@@ -1,12 +1,12 @@
-use mathlib.Core.Path.{◌≡◌, sym, ap, ◌∙◌}
-use Prim.Native.Nat.{ℕ, ◌+◌, ◌-◌, ◌*◌, ◌≤◌, ◌<◌}
+use mathlib.Core.Path.{sym, ap, ◌∙◌}
+use Prim.Native.Nat.{◌+◌, ◌-◌, ◌*◌}
 use native.Mathlib.Omega.{arith}
 use borrow.Author.Count.{below_more}
-use Rattle.theory.specs.Layout.{sample_place, word_at}
+use Rattle.theory.specs.Layout.{word_at}
 use Rattle.bits_count.proofs.Runs.{bits-ones-le}
 use Rattle.image_string.proofs.Saying.{decides_held, decides_missed}
 use Rattle.check_sample.specs.Words.{bits_in, NamesOne}
-use Rattle.check_counts_and_samples.proofs.Numbering.{NumberSampled, number-named, piece_named, none_before, numbers_piece}
+use Rattle.check_counts_and_samples.proofs.Numbering.{number-named, piece_named, none_before, numbers_piece}
 use Rattle.check_counts_and_samples.proofs.each_sampled.Goals as goal
 
 pub overflow_add-s : goal.overflow_add-s

@@ -1,12 +1,8 @@
-use mathlib.Core.Path.{◌≡◌, sym, ap, ◌∙◌}
+use mathlib.Core.Path.{◌≡◌}
 use Prim.Native.Nat.{ℕ, ◌+◌, ◌-◌, ◌*◌, ◌≤◌, ◌<◌}
-use native.Mathlib.Omega.{arith}
-use borrow.Author.Count.{below_more}
-use Rattle.theory.specs.Layout.{sample_place, word_at}
-use Rattle.bits_count.proofs.Runs.{bits-ones-le}
-use Rattle.image_string.proofs.Saying.{decides_held, decides_missed}
-use Rattle.check_sample.specs.Words.{bits_in, NamesOne}
-use Rattle.check_counts_and_samples.proofs.Numbering.{NumberSampled, number-named, piece_named, none_before, numbers_piece}
+use Rattle.theory.specs.Layout.{sample_place}
+use Rattle.check_sample.specs.Words.{bits_in}
+use Rattle.check_counts_and_samples.proofs.Numbering.{NumberSampled}
 use Rattle.check_counts_and_samples.proofs.each_sampled.Given as goal
 
 abbrev pub invariant-loop-s : goal.invariant-loop-s

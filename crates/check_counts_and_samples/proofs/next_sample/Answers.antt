@@ -1,4 +1,3 @@
-use borrow.Author.Rules.{rules}
 use mathlib.Core.Path.{sym, ap, ◌∙◌}
 use Prim.Native.Nat.{◌+◌, ◌%◌}
 use Rattle.check_counts_and_samples.proofs.Numbering.{next-block, next_column}

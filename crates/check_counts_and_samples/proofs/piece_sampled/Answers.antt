@@ -1,4 +1,3 @@
-use borrow.Author.Rules.{rules}
 use native.Mathlib.Omega.{arith}
 use Rattle.check_sample_table.proofs.Adding.{counts-few, counts-before}
 use Rattle.check_counts_and_samples.proofs.piece_sampled.Goals as goal

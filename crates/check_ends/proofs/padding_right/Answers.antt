@@ -1,7 +1,6 @@
 use mathlib.Core.Path.{subst}
 use Prim.Native.Nat.{◌+◌, ◌-◌, ◌*◌, ◌/◌}
 use native.Mathlib.Omega.{arith}
-use borrow.Author.Rules.{rules}
 use Rattle.meaning.specs.Image.{string_in}
 use Rattle.theory.specs.Stages.{CountsAndPadding}
 use Rattle.image_string.specs.Decides.{Decides}

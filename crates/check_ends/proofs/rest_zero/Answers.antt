@@ -1,6 +1,5 @@
 use Prim.Native.Nat.{◌+◌, ◌/◌}
 use native.Mathlib.Omega.{arith}
-use borrow.Author.Rules.{rules}
 use Rattle.image_string.specs.Parts.{ZeroBytes, Unused}
 use Rattle.image_string.proofs.Saying.{decides_same}
 use Rattle.image_string.proofs.Blanks.{blank_bits, blank_bytes, rest-shifted, rest_blank, blank_rest}

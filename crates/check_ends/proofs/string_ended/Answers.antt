@@ -1,6 +1,5 @@
 use mathlib.Core.Path.{sym, ◌∙◌}
 use native.Mathlib.Omega.{arith}
-use borrow.Author.Rules.{rules}
 use Rattle.meaning.specs.Image.{string_in}
 use Rattle.theory.specs.Stages.{Ended}
 use Rattle.image_string.proofs.Saying.{decides_is}

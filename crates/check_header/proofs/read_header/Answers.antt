@@ -1,6 +1,5 @@
 use mathlib.Core.Path.{sym, ap, ap₂, ◌∙◌}
 use native.Mathlib.Omega.{arith}
-use borrow.Author.Rules.{rules}
 use Rattle.check_header.specs.Told.{RunsFit}
 use Rattle.check_header.proofs.Reserved.{words-zero, header-all, header-runs, header_needs}
 use Rattle.image_layout.specs.declared.Layout.{Layout}

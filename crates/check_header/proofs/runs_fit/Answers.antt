@@ -1,5 +1,4 @@
 use native.Mathlib.Omega.{arith}
-use borrow.Author.Rules.{rules}
 use Rattle.image_string.proofs.Saying.{decides_is}
 use Rattle.check_header.proofs.runs_fit.Goals as goal
 

@@ -7,7 +7,6 @@ use Rattle.image_string.proofs.Saying.{decides_same}
 use Rattle.check_sample.specs.Words.{ListEnds}
 use Rattle.check_sample.proofs.Ending.{ends-kept, kept-ends}
 use Rattle.check_metres.specs.Ends.{MetresEnded}
-use borrow.Author.Rules.{rules}
 use Rattle.check_metres.proofs.metres_ended.Goals as goal
 
 pub returns-in_default : goal.returns-in_default

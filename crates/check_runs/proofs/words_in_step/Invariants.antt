@@ -1,14 +1,8 @@
-use mathlib.Core.Path.{◌≡◌, ap}
+use mathlib.Core.Path.{◌≡◌}
 use Prim.Native.Nat.{ℕ, ◌+◌, ◌-◌, ◌*◌, ◌≤◌}
-use native.Mathlib.Omega.{arith}
 use Rattle.meaning.specs.Strings.{ones}
 use Rattle.meaning.specs.Bytes.{bits_from}
 use Rattle.check_runs_words.specs.Steps.{StepAt}
-use Rattle.bits_count.proofs.Runs.{bits-ones-le, ones-after}
-use Rattle.check_runs_words.proofs.Stepping.{word_apart, word-few}
-use Rattle.check_runs.proofs.WordsStepping.{step_with, step_left}
-use Rattle.image_string.proofs.Saying.{decides_held, decides_missed, decides_same}
-use Rattle.check_runs_words.proofs.BytesStepping.{step-none, step_join, step_part}
 use Rattle.check_runs.proofs.words_in_step.Given as goal
 
 abbrev pub invariant-loop-i : goal.invariant-loop-i

@@ -1,11 +1,9 @@
 use mathlib.Core.Path.{sym, ap, ◌∙◌, subst}
-use Prim.Native.Nat.{ℕ, ◌+◌, ◌-◌, ◌*◌, ◌/◌, ◌≤◌, ◌<◌}
+use Prim.Native.Nat.{◌+◌, ◌*◌, ◌≤◌, ◌<◌}
 use native.Mathlib.Decide.{dec_lt}
 use native.Mathlib.Omega.{arith}
 use lib.ListN.{length}
-use borrow.Author.Rules.{rules}
 use Rattle.theory.specs.Layout.{word_at}
-use Rattle.check_runs_samples.specs.Ahead.{Seen}
 use Rattle.check_runs_samples.proofs.Places.{sample_room}
 use Rattle.check_runs_samples.proofs.samples_ahead.Goals as goal
 

@@ -1,10 +1,6 @@
-use mathlib.Core.Path.{◌≡◌}
-use Prim.Native.Nat.{◌+◌, ◌-◌, ◌*◌, ◌≤◌}
+use Prim.Native.Nat.{◌*◌}
 use native.Mathlib.Omega.{arith}
-use Rattle.meaning.specs.Strings.{ones}
-use Rattle.meaning.specs.Bytes.{bits_from}
 use Rattle.bits_byte.proofs.Values.{value-le}
-use Rattle.check_runs_words.specs.Steps.{StepAt}
 use Rattle.bits_count.proofs.Runs.{bits-ones-le, bits-next}
 use Rattle.check_runs_words.proofs.BytesStepping.{step-none, step-bit}
 use Rattle.check_runs_words.proofs.bits_in_step.Goals as goal

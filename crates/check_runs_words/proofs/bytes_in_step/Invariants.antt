@@ -1,13 +1,8 @@
-use mathlib.Core.Path.{◌≡◌, ap, ◌∙◌}
+use mathlib.Core.Path.{◌≡◌}
 use Prim.Native.Nat.{◌+◌, ◌-◌, ◌*◌, ◌≤◌}
-use native.Mathlib.Omega.{arith}
-use borrow.Author.Rules.{rules}
 use Rattle.meaning.specs.Strings.{ones}
 use Rattle.meaning.specs.Bytes.{bits_from}
 use Rattle.check_runs_words.specs.Steps.{StepAt}
-use Rattle.bits_count.proofs.Runs.{bits-ones-le, whole_byte_run, ones-after}
-use Rattle.image_string.proofs.Saying.{decides_held, decides_missed, decides_same}
-use Rattle.check_runs_words.proofs.BytesStepping.{step-none, step_join, step_part}
 use Rattle.check_runs_words.proofs.bytes_in_step.Given as goal
 
 abbrev pub invariant-loop-i : goal.invariant-loop-i

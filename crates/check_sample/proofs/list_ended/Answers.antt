@@ -4,7 +4,6 @@ use Rattle.image_string.specs.Parts.{ZeroBytes}
 use Rattle.image_string.proofs.Saying.{decides_same}
 use Rattle.check_sample.specs.Words.{ListEnds}
 use Rattle.check_sample.proofs.Ending.{rest-zero, zero_rest}
-use borrow.Author.Rules.{rules}
 use Rattle.check_sample.proofs.list_ended.Goals as goal
 
 pub returns : goal.returns

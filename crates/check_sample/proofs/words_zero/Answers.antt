@@ -1,7 +1,6 @@
 use mathlib.Core.Path.{subst}
 use Rattle.image_string.specs.Decides.{Decides}
 use Rattle.check_sample.specs.Words.{ListEnds}
-use borrow.Author.Rules.{rules}
 use Rattle.check_sample.proofs.words_zero.Goals as goal
 
 pub returns : goal.returns

@@ -1,8 +1,6 @@
-use mathlib.Core.Path.{◌≡◌, refl}
-use Prim.Native.Nat.{ℕ, ◌+◌, ◌-◌, ◌%◌, ◌≤◌}
-use native.Mathlib.Omega.{arith}
-use Rattle.theory.proofs.Tables.{sum-none}
-use Rattle.check_sample_table.proofs.Adding.{Summed, summed-few, summed_more}
+use mathlib.Core.Path.{◌≡◌}
+use Prim.Native.Nat.{◌-◌, ◌%◌, ◌≤◌}
+use Rattle.check_sample_table.proofs.Adding.{Summed}
 use Rattle.check_sample_table.proofs.add_up.Given as goal
 
 abbrev pub invariant-loop-w : goal.invariant-loop-w

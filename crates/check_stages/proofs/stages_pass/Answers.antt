@@ -1,5 +1,4 @@
 use Rattle.image_string.proofs.Saying.{decides_held, decides_missed, decides_same}
-use borrow.Author.Rules.{rules}
 use Rattle.check_stages.proofs.stages_pass.Goals as goal
 
 pub returns-then-not-ended : goal.returns-then-not-ended

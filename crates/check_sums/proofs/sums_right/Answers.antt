@@ -3,7 +3,6 @@ use native.Mathlib.Omega.{arith}
 use lib.Dec.{eqb}
 use Rattle.theory.specs.Layout.{AreBytes}
 use Rattle.check_sums.proofs.Checking.{wrong_first, right_second}
-use borrow.Author.Rules.{rules}
 use Rattle.check_sums.proofs.sums_right.Goals as goal
 
 pub returns-then-word-right : goal.returns-then-word-right

@@ -1,9 +1,6 @@
-use mathlib.Core.Path.{◌≡◌, sym, ◌∙◌}
-use Prim.Native.Nat.{◌-◌, ◌≤◌}
-use borrow.Author.Tests.{not-true, not-false}
+use mathlib.Core.Path.{sym, ◌∙◌}
 use native.Mathlib.Omega.{arith}
-use Rattle.meaning.specs.Blocks.{wrong_block}
-use Rattle.check_sums.proofs.Checking.{wrong_after, wrong_all, wrong_here, wrong_later, wrong_none}
+use Rattle.check_sums.proofs.Checking.{wrong_all, wrong_here, wrong_later, wrong_none}
 use Rattle.check_sums.proofs.wrong_block.Goals as goal
 
 pub loop-i-init : goal.loop-i-init

@@ -1,9 +1,7 @@
-use mathlib.Core.Path.{◌≡◌, sym, ◌∙◌}
+use mathlib.Core.Path.{◌≡◌}
 use Prim.Native.Nat.{◌-◌, ◌≤◌}
-use borrow.Author.Tests.{not-true, not-false}
-use native.Mathlib.Omega.{arith}
 use Rattle.meaning.specs.Blocks.{wrong_block}
-use Rattle.check_sums.proofs.Checking.{wrong_after, wrong_all, wrong_here, wrong_later, wrong_none}
+use Rattle.check_sums.proofs.Checking.{wrong_after}
 use Rattle.check_sums.proofs.wrong_block.Given as goal
 
 abbrev pub invariant-loop-i : goal.invariant-loop-i

@@ -1,7 +1,6 @@
 use mathlib.Core.Path.{subst}
 use Prim.Native.Nat.{◌+◌, ◌-◌}
 use native.Mathlib.Omega.{arith}
-use borrow.Author.Rules.{rules}
 use Rattle.image_string.specs.Decides.{Decides}
 use Rattle.check_sample.specs.Words.{ListEnds}
 use Rattle.fault_counts.proofs.Wrong.{none_after, wrong_after_lem}

@@ -2,7 +2,6 @@ use mathlib.Core.Path.{refl, sym, subst}
 use native.Mathlib.Omega.{arith}
 use Rattle.image_layout.specs.Fits.{MetresFit}
 use Rattle.fault_counts.specs.After.{LowestAfterMetres}
-use borrow.Author.Rules.{rules}
 use Rattle.fault_counts.proofs.wrong_after_metres.Goals as goal
 
 pub returns-in_default : goal.returns-in_default

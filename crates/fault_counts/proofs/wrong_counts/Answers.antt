@@ -1,6 +1,5 @@
 use mathlib.Core.Path.{subst}
 use native.Mathlib.Omega.{arith}
-use borrow.Author.Rules.{rules}
 use Rattle.theory.specs.Layout.{AreBytes}
 use Rattle.theory.specs.Stages.{samples_of, word_blocks, blocks_of_samples}
 use Rattle.theory.specs.Faults.{LowestWrong, RestKept}

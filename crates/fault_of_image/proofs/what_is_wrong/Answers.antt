@@ -1,6 +1,5 @@
 use mathlib.Core.Path.{sym, ap, subst, ◌∙◌}
 use native.Mathlib.Omega.{arith}
-use borrow.Author.Rules.{rules}
 use Rattle.theory.specs.Layout.{AreBytes}
 use Rattle.image_layout.specs.declared.Layout.{Layout}
 use Rattle.fault_strings.specs.declared.StringsFound.TheVariants.{Given}

@@ -1,5 +1,5 @@
 use mathlib.Core.Path.{◌≡◌, sym, ap, ◌∙◌}
-use Prim.Native.Nat.{◌+◌, ◌-◌, ◌*◌, ◌/◌, ◌≤◌, ◌<◌}
+use Prim.Native.Nat.{◌+◌, ◌-◌, ◌*◌, ◌/◌, ◌≤◌}
 use native.Mathlib.Omega.{arith}
 use Rattle.meaning.specs.Image.{string_in}
 use Rattle.theory.specs.Layout.{word_at, sample_in}
@@ -8,7 +8,7 @@ use Rattle.image_string.specs.Parts.{ones_to}
 use Rattle.image_string.proofs.Blanks.{kept-counts}
 use Rattle.image_string.proofs.Ones.{ones_to_mono}
 use Rattle.nav_select.proofs.Found.{one-start}
-use Rattle.fault_samples.proofs.Wrong.{SampledTo, sampled_more, front-sampled, none_wrong, wrong_sample_lem}
+use Rattle.fault_samples.proofs.Wrong.{sampled_more, front-sampled, none_wrong, wrong_sample_lem}
 use Rattle.fault_samples.proofs.wrong_in_samples.Goals as goal
 use Rattle.fault_samples.proofs.wrong_in_samples.Goals.{After-select_after-place, After-word, After-word-passed}
 

@@ -1,5 +1,4 @@
 use native.Mathlib.Omega.{arith}
-use borrow.Author.Rules.{rules}
 use Rattle.theory.specs.Layout.{AreBytes}
 use Rattle.fault_samples.proofs.Wrong.{needed1, needed0, named_S1, named_S0}
 use Rattle.fault_samples.proofs.wrong_samples.Goals as goal

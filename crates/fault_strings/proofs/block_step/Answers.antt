@@ -1,6 +1,5 @@
 use Prim.Native.Nat.{◌+◌, ◌*◌}
 use native.Mathlib.Omega.{arith}
-use borrow.Author.Rules.{rules}
 use Rattle.check_runs.proofs.Stepping.{step-behind}
 use Rattle.fault_strings.proofs.block_step.Goals as goal
 

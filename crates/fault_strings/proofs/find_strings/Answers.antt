@@ -1,4 +1,3 @@
-use borrow.Author.Rules.{rules}
 use Rattle.fault_strings.specs.Given.{StepCounted, StringsGiven}
 use Rattle.fault_strings.proofs.Giving.{last_of_r1, last_of_r0, given, counted}
 use Rattle.fault_strings.proofs.Finding.{finds_same}

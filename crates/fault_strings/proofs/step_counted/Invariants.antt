@@ -1,16 +1,9 @@
-use mathlib.Core.Path.{◌≡◌, sym, ap, subst, ◌∙◌}
+use mathlib.Core.Path.{◌≡◌}
 use Prim.Native.Nat.{◌+◌, ◌-◌, ◌*◌, ◌/◌, ◌≤◌}
-use native.Mathlib.Omega.{arith}
-use Rattle.meaning.specs.Image.{string_blocks}
 use Rattle.theory.specs.Faults.{LowestWrong}
-use Rattle.theory.proofs.InBlocks.{string-ones-le, no_string, counted_on, counted_full}
 use Rattle.image_string.specs.Parts.{ones_to}
-use Rattle.image_string.proofs.Saying.{decides_held, decides_missed}
-use Rattle.image_string.proofs.Within.{within_join}
 use Rattle.check_runs.specs.Steps.{StepWithin}
-use Rattle.check_runs.proofs.Stepping.{no_first, in_step, step-within}
-use Rattle.fault_strings.specs.Given.{CountKept, LastBlocks}
-use Rattle.fault_strings.proofs.Finding.{none_yet, lowest_more}
+use Rattle.fault_strings.specs.Given.{CountKept}
 use Rattle.fault_strings.proofs.step_counted.Given as goal
 
 abbrev pub invariant-loop-j : goal.invariant-loop-j

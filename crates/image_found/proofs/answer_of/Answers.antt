@@ -1,6 +1,5 @@
 use mathlib.Core.Path.{sym, ap, ◌∙◌}
 use Rattle.image_found.specs.Checked.{answered}
-use borrow.Author.Rules.{rules}
 use Rattle.image_found.proofs.answer_of.Goals as goal
 
 pub returns-in-Sound : goal.returns-in-Sound

@@ -1,5 +1,4 @@
 use mathlib.Core.Path.{sym, ap, ◌∙◌}
-use borrow.Author.Rules.{rules}
 use Rattle.image_found.specs.declared.Checked.TheVariants.{Refused}
 use Rattle.image_found.specs.Checked.{numbered}
 use Rattle.image_found.proofs.refused_by.Goals as goal

@@ -4,7 +4,6 @@ use Rattle.theory.specs.Stages.{word_blocks, metres_block}
 use Rattle.image_layout.specs.Layout.{metres_at}
 use native.Mathlib.Omega.{arith}
 use Rattle.image_layout.proofs.Laying.{laid_out, held_most}
-use borrow.Author.Rules.{rules}
 use Rattle.image_layout.proofs.layout_of.Goals as goal
 
 pub list_blocks-requires : goal.list_blocks-requires

@@ -1,6 +1,5 @@
-use Prim.Native.Nat.{◌-◌, ◌≤◌}
 use native.Mathlib.Omega.{arith}
-use Rattle.image_string.proofs.Zeros.{Seen, seen_none, seen_more}
+use Rattle.image_string.proofs.Zeros.{seen_none, seen_more}
 use Rattle.image_string.proofs.Saying.{decides_is}
 use Rattle.image_string.specs.Parts.{ZeroBytes}
 use Rattle.image_string.proofs.all_zero.Goals as goal

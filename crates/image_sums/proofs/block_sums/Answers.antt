@@ -1,7 +1,6 @@
-use Rattle.std.proofs.Common.{◌≡◌, ℕ, ◌+◌, ◌-◌, ◌*◌, ◌≤◌, drop, refl, ap, ◌∙◌, arith, rules}
-use Rattle.meaning.specs.Blocks.{sums}
+use Rattle.std.proofs.Common.{◌+◌, refl, ap, ◌∙◌, arith}
 use Rattle.theory.specs.Layout.{word_at}
-use Rattle.image_sums.proofs.Summing.{words_from, sums_next, sums-last}
+use Rattle.image_sums.proofs.Summing.{sums_next, sums-last}
 use Rattle.image_sums.proofs.block_sums.Goals as goal
 
 pub loop-i-init : goal.loop-i-init

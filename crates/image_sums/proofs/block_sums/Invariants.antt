@@ -1,7 +1,6 @@
-use Rattle.std.proofs.Common.{◌≡◌, ℕ, ◌+◌, ◌-◌, ◌*◌, ◌≤◌, drop, refl, ap, ◌∙◌, arith, rules}
+use Rattle.std.proofs.Common.{◌≡◌, ℕ, ◌-◌, ◌*◌, ◌≤◌, drop}
 use Rattle.meaning.specs.Blocks.{sums}
-use Rattle.theory.specs.Layout.{word_at}
-use Rattle.image_sums.proofs.Summing.{words_from, sums_next, sums-last}
+use Rattle.image_sums.proofs.Summing.{words_from}
 use Rattle.image_sums.proofs.block_sums.Given as goal
 
 abbrev pub invariant-loop-i : goal.invariant-loop-i

@@ -1,15 +1,14 @@
 use mathlib.Core.Path.{◌≡◌, sym, ap, ap₂, ◌∙◌}
-use Prim.Native.Nat.{ℕ, suc, ◌+◌, ◌-◌, ◌*◌, ◌≤◌}
+use Prim.Native.Nat.{ℕ, suc, ◌+◌, ◌-◌}
 use native.Mathlib.Numerals.{add-one}
 use native.Mathlib.Omega.{arith}
-use lib.ListN.{length, length-set}
+use lib.ListN.{length-set}
 use Rattle.meaning.specs.Image.{parents_in}
-use Rattle.meaning.specs.Listing.{listing}
 use Rattle.list_measure.specs.declared.Measured.TheVariants.{TooDeep}
-use Rattle.list_measure.specs.Levels.{ones_before_in, below, size_of, levels_from}
+use Rattle.list_measure.specs.Levels.{ones_before_in, below, levels_from}
 use Rattle.list_measure.proofs.Levels.{levels-end, levels-deep, levels_more, levels-size}
 use Rattle.list_measure.proofs.Numbers.{ones_before_in_mono, ones_before_in_kids, ones_before_in_most, by_is_in, most_nodes}
-use Rattle.list_measure.proofs.Cursors.{Found, found_more, found_all}
+use Rattle.list_measure.proofs.Cursors.{found_more, found_all}
 use Rattle.list_measure.proofs.measure.Goals as goal
 
 pub overflow_sub-a : goal.overflow_sub-a

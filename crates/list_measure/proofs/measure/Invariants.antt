@@ -1,15 +1,10 @@
-use mathlib.Core.Path.{◌≡◌, sym, ap, ap₂, ◌∙◌}
-use Prim.Native.Nat.{ℕ, suc, ◌+◌, ◌-◌, ◌*◌, ◌≤◌}
-use native.Mathlib.Numerals.{add-one}
-use native.Mathlib.Omega.{arith}
-use lib.ListN.{length, length-set}
+use mathlib.Core.Path.{◌≡◌}
+use Prim.Native.Nat.{suc, ◌-◌, ◌*◌, ◌≤◌}
+use lib.ListN.{length}
 use Rattle.meaning.specs.Image.{parents_in}
 use Rattle.meaning.specs.Listing.{listing}
-use Rattle.list_measure.specs.declared.Measured.TheVariants.{TooDeep}
 use Rattle.list_measure.specs.Levels.{ones_before_in, below, size_of, levels_from}
-use Rattle.list_measure.proofs.Levels.{levels-end, levels-deep, levels_more, levels-size}
-use Rattle.list_measure.proofs.Numbers.{ones_before_in_mono, ones_before_in_kids, ones_before_in_most, by_is_in, most_nodes}
-use Rattle.list_measure.proofs.Cursors.{Found, found_more, found_all}
+use Rattle.list_measure.proofs.Cursors.{Found}
 use Rattle.list_measure.proofs.measure.Given as goal
 
 abbrev pub invariant-loop-a : goal.invariant-loop-a

@@ -6,7 +6,6 @@ use Rattle.theory.specs.Stages.{read_r0}
 use Rattle.ask_argument.specs.Values.{value_of}
 use Rattle.nav_strings.proofs.Bits.{node_in, r0_begins}
 use Rattle.nav_children.proofs.Families.{child_none, has_child, small, child_some}
-use borrow.Author.Rules.{rules}
 use Rattle.nav_children.proofs.child_number.Goals as goal
 use Rattle.nav_children.proofs.child_number.Goals.{Else-bit_r0-eq0}
 

@@ -2,7 +2,6 @@ use native.Mathlib.Omega.{arith}
 use Prim.Native.Nat.{◌+◌, ◌≤◌}
 use Rattle.nav_sibling_range.proofs.Own.{few}
 use Rattle.nav_children.proofs.Families.{one_more, next-there, after_is, last_is}
-use borrow.Author.Rules.{rules}
 use Rattle.nav_children.proofs.children_of.Goals as goal
 use Rattle.nav_children.proofs.children_of.Goals.{After-rank_r0-k, After-select_r1-after}
 

@@ -5,7 +5,6 @@ use Rattle.theory.specs.ByStrings.{bit_of}
 use Rattle.theory.specs.Stages.{read_r0}
 use Rattle.nav_strings.proofs.Bits.{node_in, r0_begins}
 use Rattle.nav_children.proofs.Families.{degree-none, has_child, above, small, degree-some}
-use borrow.Author.Rules.{rules}
 use Rattle.nav_children.proofs.degree_of.Goals as goal
 use Rattle.nav_children.proofs.degree_of.Goals.{Else-bit_r0-eq0}
 

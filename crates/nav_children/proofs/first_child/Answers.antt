@@ -2,7 +2,6 @@ use native.Mathlib.Omega.{arith}
 use Rattle.nav_strings.proofs.Bits.{node_in, r0_begins}
 use Rattle.nav_sibling_range.proofs.Own.{small_before}
 use Rattle.nav_children.proofs.Families.{first-none, has_child, first_some}
-use borrow.Author.Rules.{rules}
 use Rattle.nav_children.proofs.first_child.Goals as goal
 
 pub bit_r0-requires : goal.bit_r0-requires

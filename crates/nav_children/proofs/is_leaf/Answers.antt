@@ -1,7 +1,6 @@
 use Rattle.bits_byte.proofs.Values.{value-le}
 use Rattle.nav_strings.proofs.Bits.{node_in, r0_begins}
 use Rattle.nav_children.proofs.Families.{leaf_given}
-use borrow.Author.Rules.{rules}
 use Rattle.nav_children.proofs.is_leaf.Goals as goal
 
 pub bit_r0-requires : goal.bit_r0-requires

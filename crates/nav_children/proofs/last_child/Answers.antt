@@ -3,7 +3,6 @@ use Prim.Native.Nat.{◌+◌}
 use Rattle.nav_strings.proofs.Bits.{node_in, r0_begins}
 use Rattle.nav_sibling_range.proofs.Own.{small_before}
 use Rattle.nav_children.proofs.Families.{last_none, has_child, last_some}
-use borrow.Author.Rules.{rules}
 use Rattle.nav_children.proofs.last_child.Goals as goal
 
 pub bit_r0-requires : goal.bit_r0-requires

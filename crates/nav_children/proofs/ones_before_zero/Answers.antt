@@ -5,7 +5,6 @@ use Rattle.theory.specs.Rank.{position}
 use Rattle.theory.specs.Stages.{read_r1, read_r0}
 use Rattle.nav_sibling_range.proofs.Own.{few, more0}
 use Rattle.nav_children.proofs.Families.{before_at}
-use borrow.Author.Rules.{rules}
 use Rattle.nav_children.proofs.ones_before_zero.Goals as goal
 
 pub overflow_add-rank_r0 : goal.overflow_add-rank_r0

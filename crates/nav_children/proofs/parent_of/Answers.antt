@@ -5,7 +5,6 @@ use Rattle.theory.specs.Stages.{read_r0}
 use Rattle.theory.proofs.Navigate.{position-zero}
 use Rattle.nav_sibling_range.proofs.Own.{more1, small0}
 use Rattle.nav_children.proofs.Families.{parent_given}
-use borrow.Author.Rules.{rules}
 use Rattle.nav_children.proofs.parent_of.Goals as goal
 
 pub returns-then-k-eq0 : goal.returns-then-k-eq0

@@ -2,7 +2,6 @@ use mathlib.Core.Path.{ap, ◌∙◌}
 use native.Mathlib.Omega.{arith}
 use Rattle.theory.specs.Layout.{word_at}
 use Rattle.nav_metres.proofs.Measures.{unmeasured, measure}
-use borrow.Author.Rules.{rules}
 use Rattle.nav_metres.proofs.metres_of.Goals as goal
 
 pub returns-in_default : goal.returns-in_default

@@ -1,10 +1,7 @@
-use mathlib.Core.Path.{◌≡◌, ap, ap₂, ◌∙◌}
-use Prim.Native.Nat.{◌+◌, ◌-◌, ◌*◌, ◌≤◌}
-use native.Mathlib.Omega.{arith}
+use mathlib.Core.Path.{◌≡◌}
+use Prim.Native.Nat.{◌-◌, ◌*◌, ◌≤◌}
 use Rattle.meaning.specs.Strings.{ones}
 use Rattle.meaning.specs.Bytes.{bits_from}
-use Rattle.bits_count.proofs.Runs.{no_bits, bits-ones-le}
-use Rattle.nav_rank.proofs.Counts.{word_more}
 use Rattle.nav_rank.proofs.ones_in_words.Given as goal
 
 abbrev pub invariant-loop-i : goal.invariant-loop-i

@@ -1,7 +1,6 @@
 use mathlib.Core.Path.{◌≡◌, ◌∙◌}
 use Prim.Native.Nat.{◌-◌, ◌*◌, ◌/◌}
 use native.Mathlib.Omega.{arith}
-use borrow.Author.Rules.{rules}
 use Rattle.image_string.specs.Parts.{ones_to}
 use Rattle.image_string.proofs.Ones.{ones_to_mono}
 use Rattle.nav_rank.proofs.Counts.{kept-count}

@@ -1,9 +1,5 @@
-use mathlib.Core.Path.{◌≡◌, ◌∙◌}
-use Prim.Native.Nat.{◌+◌, ◌-◌, ◌*◌, ◌≤◌, ◌<◌}
-use native.Mathlib.Omega.{arith}
+use Prim.Native.Nat.{◌-◌, ◌*◌, ◌≤◌, ◌<◌}
 use Rattle.image_string.specs.Parts.{ones_to}
-use Rattle.image_string.proofs.Ones.{ones_to_mono}
-use Rattle.nav_rank.proofs.Counts.{next-end}
 use Rattle.nav_select_in_block.proofs.block_of.Given as goal
 
 abbrev pub invariant-loop-i : goal.invariant-loop-i

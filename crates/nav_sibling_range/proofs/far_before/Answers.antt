@@ -3,7 +3,6 @@ use native.Mathlib.Omega.{arith}
 use Rattle.theory.specs.Rank.{position}
 use Rattle.theory.specs.Stages.{read_r1}
 use Rattle.nav_sibling_range.proofs.Own.{more1}
-use borrow.Author.Rules.{rules}
 use Rattle.nav_sibling_range.proofs.far_before.Goals as goal
 
 pub run_end-requires : goal.run_end-requires

@@ -4,7 +4,6 @@ use native.Mathlib.Omega.{arith}
 use Rattle.theory.specs.Rank.{position}
 use Rattle.theory.specs.Stages.{read_r1}
 use Rattle.nav_sibling_range.proofs.Own.{few, more1}
-use borrow.Author.Rules.{rules}
 use Rattle.nav_sibling_range.proofs.far_last.Goals as goal
 
 pub overflow_add-rank_r1 : goal.overflow_add-rank_r1

@@ -4,7 +4,6 @@ use native.Mathlib.Omega.{arith}
 use Rattle.bits_nearest.specs.Found.{LastOne}
 use Rattle.nav_strings.proofs.Strings.{ready1}
 use Rattle.nav_sibling_range.proofs.Near.{near_left}
-use borrow.Author.Rules.{rules}
 use Rattle.nav_sibling_range.proofs.run_before.Goals as goal
 
 pub bits_at-requires : goal.bits_at-requires

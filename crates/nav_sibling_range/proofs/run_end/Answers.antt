@@ -2,7 +2,6 @@ use mathlib.Core.Path.{sym, ap, ◌∙◌}
 use Rattle.theory.specs.Rank.{position}
 use Rattle.theory.specs.Stages.{read_r1}
 use Rattle.theory.proofs.Navigate.{position-zero}
-use borrow.Author.Rules.{rules}
 use Rattle.nav_sibling_range.proofs.run_end.Goals as goal
 
 pub returns-then-k-eq0 : goal.returns-then-k-eq0

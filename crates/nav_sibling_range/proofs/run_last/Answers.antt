@@ -4,7 +4,6 @@ use native.Mathlib.Omega.{arith}
 use Rattle.bits_nearest.specs.Found.{FirstOne}
 use Rattle.nav_strings.proofs.Strings.{ready1}
 use Rattle.nav_sibling_range.proofs.Near.{near_right}
-use borrow.Author.Rules.{rules}
 use Rattle.nav_sibling_range.proofs.run_last.Goals as goal
 
 pub bits_at-requires : goal.bits_at-requires

@@ -1,6 +1,5 @@
 use native.Mathlib.Omega.{arith}
 use Rattle.nav_siblings.proofs.Siblings.{rank_root, rank_above, rank_given}
-use borrow.Author.Rules.{rules}
 use Rattle.nav_siblings.proofs.child_rank.Goals as goal
 
 pub returns-then-x-eq1 : goal.returns-then-x-eq1

@@ -2,7 +2,6 @@ use native.Mathlib.Omega.{arith}
 use Rattle.nav_strings.proofs.Bits.{node_in}
 use Rattle.nav_sibling_range.proofs.Own.{strings}
 use Rattle.nav_siblings.proofs.Siblings.{next-none, next-some}
-use borrow.Author.Rules.{rules}
 use Rattle.nav_siblings.proofs.next_sibling.Goals as goal
 
 pub bit_r1-requires : goal.bit_r1-requires

@@ -1,7 +1,6 @@
 use native.Mathlib.Omega.{arith}
 use Rattle.nav_strings.proofs.Bits.{node_in}
 use Rattle.nav_siblings.proofs.Siblings.{previous_first, previous_none, previous_some}
-use borrow.Author.Rules.{rules}
 use Rattle.nav_siblings.proofs.previous_sibling.Goals as goal
 
 pub returns-then-x-eq1 : goal.returns-then-x-eq1

@@ -5,7 +5,6 @@ use Rattle.theory.specs.Stages.{read_r1}
 use Rattle.ask_argument.specs.Values.{value_of}
 use Rattle.nav_sibling_range.proofs.Own.{strings, small1}
 use Rattle.nav_siblings.proofs.Siblings.{left_none, left_some, right_none, right_some}
-use borrow.Author.Rules.{rules}
 use Rattle.nav_siblings.proofs.sibling_at.Goals as goal
 
 pub shifted-y-requires : goal.shifted-y-requires

@@ -6,7 +6,6 @@ use Rattle.theory.specs.Layout.{bit_place}
 use Rattle.image_found.specs.Checked.{layout_in}
 use Rattle.nav_strings.proofs.Strings.{ready0}
 use Rattle.nav_strings.proofs.Bits.{bit0}
-use borrow.Author.Rules.{rules}
 use Rattle.nav_strings.proofs.bit_r0.Goals as goal
 
 pub string_bit-requires : goal.string_bit-requires

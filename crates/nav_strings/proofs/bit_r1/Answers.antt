@@ -2,7 +2,6 @@ use native.Mathlib.Omega.{arith}
 use Rattle.image_found.specs.Checked.{layout_in}
 use Rattle.nav_strings.proofs.Strings.{ready1}
 use Rattle.nav_strings.proofs.Bits.{bit1}
-use borrow.Author.Rules.{rules}
 use Rattle.nav_strings.proofs.bit_r1.Goals as goal
 
 pub string_bit-requires : goal.string_bit-requires

@@ -1,4 +1,3 @@
-use borrow.Author.Rules.{rules}
 use native.Mathlib.Omega.{arith}
 use Rattle.outline_text.proofs.Putting.{both_put, put_as}
 use Rattle.outline_heading.proofs.Sizes.{heading_pieces, heading-size}

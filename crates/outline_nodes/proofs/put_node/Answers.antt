@@ -1,4 +1,3 @@
-use borrow.Author.Rules.{rules}
 use mathlib.Core.Path.{ap, ◌∙◌}
 use Prim.Native.Nat.{◌+◌, ◌≤◌}
 use native.Mathlib.Omega.{arith}
@@ -35,19 +34,11 @@ put_metres-far-requires c =
 
 pub put-requires : goal.put-requires
 put-requires c =
-    let q = c.before.before.before.before in
-    let r = q.before.before.before.before in
-    let s = r.before.before.before.before.before in
     let whole = both_put c.put_decimal-number.ensures (both_put c.put_field-deep.ensures (both_put c.put_field-wide.ensures c.put_metres-far.ensures)) in
     omega (arith, room (goal.at.put-requires c).After-degree_of-degree, simp length-append at whole.place, put_length whole)
 
 pub returns : goal.returns
 returns c =
-    let p = c.before.before in
-    let q = p.before.before.before.before.before in
-    let r = q.before.before.before.before in
-    let s = r.before.before.before.before.before in
-    let o = s.before.before.before.before.before in
     let a = c.args in
     let ms = metres_in a.b.now in
     put_as (node_pieces ms a.x a.depth c.degree_of-degree.result ∙ ap (node_line ms a.x a.depth) c.degree_of-degree.ensures)

@@ -1,9 +1,7 @@
-use Prim.Native.Nat.{◌-◌}
 use native.Mathlib.Omega.{arith}
-use lib.ListN.{length}
 use Rattle.meaning.specs.Image.{parents_in, metres_in}
 use Rattle.outline_text.proofs.Putting.{put_length}
-use Rattle.outline_nodes.proofs.Nodes.{PairAt, Half, none_put, all_put, here, line-room, line_put}
+use Rattle.outline_nodes.proofs.Nodes.{PairAt, none_put, all_put, here, line-room, line_put}
 use Rattle.outline_nodes.proofs.put_nodes.Goals as goal
 use Rattle.outline_nodes.proofs.put_nodes.Goals.{In-loop-i}
 
@@ -37,7 +35,6 @@ bounds-pairs-i-in-loop-i c = omega (arith, (pair (goal.at.bounds-pairs-i-in-loop
 
 pub put_node-at-requires : goal.put_node-at-requires
 put_node-at-requires c =
-    let h = c.before.before.before in
     let a = c.args in
     let b = a.b.now in
     let l = c.loop-i in
@@ -51,7 +48,6 @@ loop-i-smaller c = omega arith
 
 pub loop-i-preserved : goal.loop-i-preserved
 loop-i-preserved c =
-    let p = c.before.before in
     let a = c.args in
     let b = a.b.now in
     let l = c.loop-i in

@@ -1,9 +1,7 @@
 use Prim.Native.Nat.{◌-◌}
-use native.Mathlib.Omega.{arith}
 use lib.ListN.{length}
 use Rattle.meaning.specs.Image.{parents_in, metres_in}
-use Rattle.outline_text.proofs.Putting.{put_length}
-use Rattle.outline_nodes.proofs.Nodes.{PairAt, Half, none_put, all_put, here, line-room, line_put}
+use Rattle.outline_nodes.proofs.Nodes.{Half}
 use Rattle.outline_nodes.proofs.put_nodes.Given as goal
 
 abbrev pub invariant-loop-i : goal.invariant-loop-i

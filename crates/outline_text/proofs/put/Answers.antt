@@ -1,7 +1,4 @@
-use Prim.Native.Nat.{◌+◌, ◌-◌, ◌≤◌}
 use native.Mathlib.Omega.{arith}
-use lib.ListN.{length, take}
-use Rattle.outline_text.specs.Text.{Puts}
 use Rattle.outline_text.proofs.Putting.{nothing_put, next_put, all_put, put_length}
 use Rattle.outline_text.proofs.put.Goals as goal
 

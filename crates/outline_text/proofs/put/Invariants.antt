@@ -1,8 +1,6 @@
 use Prim.Native.Nat.{◌+◌, ◌-◌, ◌≤◌}
-use native.Mathlib.Omega.{arith}
 use lib.ListN.{length, take}
 use Rattle.outline_text.specs.Text.{Puts}
-use Rattle.outline_text.proofs.Putting.{nothing_put, next_put, all_put, put_length}
 use Rattle.outline_text.proofs.put.Given as goal
 
 abbrev pub invariant-loop-i : goal.invariant-loop-i

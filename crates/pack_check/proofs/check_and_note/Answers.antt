@@ -1,6 +1,5 @@
 use mathlib.Core.Path.{ap, ap₂, ◌∙◌}
 use mathlib.Core.Bool.{not}
-use borrow.Author.Rules.{rules}
 use lib.Dec.{eqb}
 use Rattle.meaning.specs.Answers.{◌at◌when◌, alone, over}
 use Rattle.pack_check.proofs.Rows.{held}

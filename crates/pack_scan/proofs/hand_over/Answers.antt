@@ -1,9 +1,6 @@
-use mathlib.Core.Path.{◌≡◌, ◌∙◌}
-use Prim.Native.Nat.{◌-◌, ◌≤◌}
-use borrow.Author.Rules.{rules}
+use mathlib.Core.Path.{◌∙◌}
 use native.Mathlib.Omega.{arith}
-use lib.ListN.{length, length-set}
-use lib.Seq.{paste}
+use lib.ListN.{length-set}
 use Rattle.pack_scan.proofs.Handing.{handed_next, handed_last}
 use Rattle.pack_scan.proofs.hand_over.Goals as goal
 

@@ -1,10 +1,7 @@
-use mathlib.Core.Path.{◌≡◌, ◌∙◌}
+use mathlib.Core.Path.{◌≡◌}
 use Prim.Native.Nat.{◌-◌, ◌≤◌}
-use borrow.Author.Rules.{rules}
-use native.Mathlib.Omega.{arith}
-use lib.ListN.{length, length-set}
+use lib.ListN.{length}
 use lib.Seq.{paste}
-use Rattle.pack_scan.proofs.Handing.{handed_next, handed_last}
 use Rattle.pack_scan.proofs.hand_over.Given as goal
 
 abbrev pub invariant-loop-i : goal.invariant-loop-i

@@ -1,8 +1,7 @@
 use mathlib.Core.Path.{◌≡◌}
-use Prim.Native.Nat.{◌+◌, ◌-◌, ◌*◌, ◌≤◌, ◌<◌}
-use borrow.Author.Rules.{rules}
+use Prim.Native.Nat.{◌+◌, ◌*◌, ◌≤◌, ◌<◌}
 use native.Mathlib.Omega.{arith}
-use Rattle.pack_scan.proofs.Parts.{Noted, noted_first, noted_lengths, noted_next, noted_refused, noted_last, scanned_refused, scanned_last, next-at, refused-at, told_over, told_refused}
+use Rattle.pack_scan.proofs.Parts.{noted_first, noted_lengths, noted_next, noted_refused, noted_last, scanned_refused, scanned_last, next-at, refused-at, told_over, told_refused}
 use Rattle.pack_scan.proofs.scan_trees.Goals as goal
 use Rattle.pack_scan.proofs.scan_trees.Goals.{In-Over}
 

@@ -1,9 +1,5 @@
-use Prim.Native.Nat.{◌≤◌, ◌-◌}
-use mathlib.Core.Path.{◌≡◌, sym, ◌∙◌}
-use borrow.Author.Rules.{rules}
+use mathlib.Core.Path.{sym, ◌∙◌}
 use native.Mathlib.Omega.{arith}
-use lib.ListN.{length, drop}
-use Rattle.meaning.specs.Parents.{bad_from, bad_entry}
 use Rattle.theory.proofs.Lowest.{bad-low, bad_high, bad-next, bad-end, bad-first, bad-start}
 use Rattle.parents_check.proofs.bad_entry.Goals as goal
 

@@ -1,10 +1,7 @@
 use Prim.Native.Nat.{◌≤◌, ◌-◌}
-use mathlib.Core.Path.{◌≡◌, sym, ◌∙◌}
-use borrow.Author.Rules.{rules}
-use native.Mathlib.Omega.{arith}
+use mathlib.Core.Path.{◌≡◌}
 use lib.ListN.{length, drop}
 use Rattle.meaning.specs.Parents.{bad_from, bad_entry}
-use Rattle.theory.proofs.Lowest.{bad-low, bad_high, bad-next, bad-end, bad-first, bad-start}
 use Rattle.parents_check.proofs.bad_entry.Given as goal
 
 abbrev pub invariant-loop-i : goal.invariant-loop-i

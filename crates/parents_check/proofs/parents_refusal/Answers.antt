@@ -1,6 +1,5 @@
 use mathlib.Core.Path.{◌∙◌}
 use native.Mathlib.Omega.{arith}
-use borrow.Author.Rules.{rules}
 use Rattle.theory.proofs.Lowest.{bad-within}
 use Rattle.parents_check.proofs.Refusing.{refused-few, refused_many, by_entry}
 use Rattle.parents_check.proofs.parents_refusal.Goals as goal

@@ -1,7 +1,5 @@
 use Prim.Native.Nat.{◌-◌}
-use native.Mathlib.Omega.{arith}
-use borrow.Author.Rules.{rules}
-use Rattle.seal_frame.proofs.Counting.{Counting, block-few, counting-first, counting-few, counting-next, counting-last}
+use Rattle.seal_frame.proofs.Counting.{Counting}
 use Rattle.seal_frame.proofs.put_counts.Given as goal
 
 abbrev pub invariant-loop-j : goal.invariant-loop-j

@@ -1,7 +1,6 @@
 use Rattle.seal_frame.specs.Passes.{headed}
 use Rattle.image_words.specs.Words.{with_word}
 use mathlib.Core.Path.{ap, ◌∙◌}
-use borrow.Author.Rules.{rules}
 use Rattle.seal_frame.proofs.put_header.Goals as goal
 
 pub returns : goal.returns

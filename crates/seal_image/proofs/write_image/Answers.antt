@@ -1,6 +1,5 @@
 use mathlib.Core.Path.{ap, ◌∙◌}
 use native.Mathlib.Omega.{arith}
-use borrow.Author.Rules.{rules}
 use lib.ListN.{length}
 use Rattle.parents_check.proofs.Rising.{good_parents}
 use Rattle.image_layout.specs.declared.Layout.{Layout}

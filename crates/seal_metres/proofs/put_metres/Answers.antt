@@ -1,8 +1,6 @@
-use Prim.Native.Nat.{◌+◌, ◌*◌, ◌-◌, ◌≤◌}
+use Prim.Native.Nat.{◌+◌, ◌*◌}
 use native.Mathlib.Omega.{arith}
-use borrow.Author.Rules.{rules}
-use Rattle.theory.specs.Stages.{word_blocks}
-use Rattle.seal_metres.proofs.Putting.{Putting, putting_first, putting_here, putting_block, putting_next, putting_last}
+use Rattle.seal_metres.proofs.Putting.{putting_first, putting_here, putting_block, putting_next, putting_last}
 use Rattle.seal_metres.proofs.put_metres.Goals as goal
 
 pub loop-j-init : goal.loop-j-init

@@ -1,8 +1,6 @@
 use Prim.Native.Nat.{◌+◌, ◌*◌, ◌-◌, ◌≤◌}
-use native.Mathlib.Omega.{arith}
-use borrow.Author.Rules.{rules}
 use Rattle.theory.specs.Stages.{word_blocks}
-use Rattle.seal_metres.proofs.Putting.{Putting, putting_first, putting_here, putting_block, putting_next, putting_last}
+use Rattle.seal_metres.proofs.Putting.{Putting}
 use Rattle.seal_metres.proofs.put_metres.Given as goal
 
 abbrev pub invariant-loop-w : goal.invariant-loop-w

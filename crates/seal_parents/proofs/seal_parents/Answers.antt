@@ -13,7 +13,6 @@ use Rattle.seal_r1_bits.specs.Listed.{runs_in}
 use Rattle.seal_image.specs.Given.{given}
 use Rattle.seal_image.proofs.Preparing.{few-runs}
 use Rattle.seal_parents.proofs.Answers.{seal_refused, seal_room, seal_made}
-use borrow.Author.Rules.{rules}
 use Rattle.seal_parents.proofs.seal_parents.Goals as goal
 use Rattle.seal_parents.proofs.seal_parents.Goals.{After-layout_of-layout, In-Passed}
 

@@ -7,8 +7,7 @@ use Rattle.bits_byte.specs.Lit.{lit}
 use Rattle.bits_append.proofs.Appending.{lit-length}
 use Rattle.parents_check.proofs.Rising.{good_parents}
 use Rattle.seal_r1.specs.Passes.{byte_place}
-use Rattle.seal_r0.proofs.Gapping.{Gapping, gapping_first, gapping_low, gapping_other, gapping_same, gapping_last, last_bit_inside}
-use borrow.Author.Rules.{rules}
+use Rattle.seal_r0.proofs.Gapping.{gapping_first, gapping_low, gapping_other, gapping_same, gapping_last, last_bit_inside}
 use Rattle.seal_r0.proofs.write_r0.Goals as goal
 use Rattle.seal_r0.proofs.write_r0.Goals.{then-x-c, else-x-c}
 

@@ -1,4 +1,3 @@
-use Prim.Native.Nat.{◌-◌}
 use mathlib.Core.Path.{◌∙◌, ap, subst}
 use native.Mathlib.Omega.{arith}
 use Rattle.theory.specs.Layout.{word_at}
@@ -6,8 +5,7 @@ use Rattle.theory.specs.Stages.{blocks_of_samples}
 use Rattle.image_words.specs.Words.{with_word}
 use Rattle.parents_check.proofs.Rising.{good_parents}
 use Rattle.seal_r1.specs.Passes.{Blank}
-use Rattle.seal_r0.proofs.Following.{Following, following_first, following_last, following_place, following_small, following_next}
-use borrow.Author.Rules.{rules}
+use Rattle.seal_r0.proofs.Following.{following_first, following_last, following_place, following_small, following_next}
 use Rattle.seal_r0.proofs.write_r0_samples.Goals as goal
 
 pub loop-s-init : goal.loop-s-init

@@ -4,7 +4,6 @@ use native.Mathlib.Omega.{arith}
 use Rattle.theory.specs.Stages.{blocks_of_samples}
 use Rattle.seal_r1.specs.Passes.{Blank}
 use Rattle.seal_r0.proofs.Running.{runs-few, blank_ends, blank_first, blank_gaps, known, blank_second, all_ran}
-use borrow.Author.Rules.{rules}
 use Rattle.seal_r0.proofs.write_strings.Goals as goal
 
 pub write_r1-m-requires : goal.write_r1-m-requires

@@ -1,8 +1,6 @@
-use Prim.Native.Nat.{◌-◌, ◌*◌}
-use lib.ListN.{length}
 use native.Mathlib.Omega.{arith}
 use Rattle.parents_check.proofs.Rising.{good_parents}
-use Rattle.seal_r1.proofs.Ending.{Ending, ending_first, ending_few, ending_within, ending_next, ending_last}
+use Rattle.seal_r1.proofs.Ending.{ending_first, ending_few, ending_within, ending_next, ending_last}
 use borrow.Author.Rules.{rules}
 use Rattle.seal_r1.proofs.write_r1.Goals as goal
 

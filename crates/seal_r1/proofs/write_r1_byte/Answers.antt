@@ -6,7 +6,6 @@ use Rattle.theory.specs.Layout.{sample_place}
 use Rattle.image_words.specs.Words.{with_word}
 use Rattle.seal_r1.specs.Passes.{byte_place, byte_marked}
 use Rattle.seal_r1.proofs.Ending.{place-few, byte_plain, byte_sample, byte_length}
-use borrow.Author.Rules.{rules}
 use Rattle.seal_r1.proofs.write_r1_byte.Goals as goal
 use Rattle.seal_r1.proofs.write_r1_byte.Goals.{After-put_word}
 

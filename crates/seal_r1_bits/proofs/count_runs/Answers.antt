@@ -1,11 +1,7 @@
-use Prim.Native.Nat.{◌+◌, ◌-◌, ◌≤◌}
-use lib.ListN.{length, take}
-use mathlib.Core.Path.{◌≡◌, refl, ◌∙◌}
-use Rattle.meaning.specs.Strings.{ones, R1, string_of}
+use mathlib.Core.Path.{refl, ◌∙◌}
 use native.Mathlib.Omega.{arith}
 use Rattle.parents_check.proofs.Rising.{good_parents}
 use Rattle.seal_r1_bits.proofs.Entries.{counted-few, counted_more, counted-all}
-use borrow.Author.Rules.{rules}
 use Rattle.seal_r1_bits.proofs.count_runs.Goals as goal
 
 pub loop-i-init : goal.loop-i-init

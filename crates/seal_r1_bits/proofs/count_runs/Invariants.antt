@@ -1,11 +1,7 @@
 use Prim.Native.Nat.{◌+◌, ◌-◌, ◌≤◌}
 use lib.ListN.{length, take}
-use mathlib.Core.Path.{◌≡◌, refl, ◌∙◌}
+use mathlib.Core.Path.{◌≡◌}
 use Rattle.meaning.specs.Strings.{ones, R1, string_of}
-use native.Mathlib.Omega.{arith}
-use Rattle.parents_check.proofs.Rising.{good_parents}
-use Rattle.seal_r1_bits.proofs.Entries.{counted-few, counted_more, counted-all}
-use borrow.Author.Rules.{rules}
 use Rattle.seal_r1_bits.proofs.count_runs.Given as goal
 
 abbrev pub invariant-loop-i : goal.invariant-loop-i

@@ -1,4 +1,4 @@
-use Prim.Native.Nat.{◌+◌, ◌-◌, ◌≤◌}
+use Prim.Native.Nat.{◌+◌}
 use lib.ListN.{drop}
 use mathlib.Core.Path.{◌≡◌, refl, sym, ◌∙◌, ap}
 use Rattle.meaning.specs.Strings.{R1, string_of}
@@ -6,7 +6,6 @@ use Rattle.meaning.specs.Bytes.{number}
 use native.Mathlib.Omega.{arith}
 use Rattle.parents_check.proofs.Rising.{good_parents}
 use Rattle.seal_r1_bits.proofs.Entries.{end_inner, shifted, shifted_small}
-use borrow.Author.Rules.{rules}
 use Rattle.seal_r1_bits.proofs.inner_r1_byte.Goals as goal
 
 pub loop-j-init : goal.loop-j-init

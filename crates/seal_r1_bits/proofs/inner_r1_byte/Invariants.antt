@@ -1,12 +1,8 @@
-use Prim.Native.Nat.{◌+◌, ◌-◌, ◌≤◌}
+use Prim.Native.Nat.{◌-◌, ◌≤◌}
 use lib.ListN.{drop}
-use mathlib.Core.Path.{◌≡◌, refl, sym, ◌∙◌, ap}
+use mathlib.Core.Path.{◌≡◌}
 use Rattle.meaning.specs.Strings.{R1, string_of}
 use Rattle.meaning.specs.Bytes.{number}
-use native.Mathlib.Omega.{arith}
-use Rattle.parents_check.proofs.Rising.{good_parents}
-use Rattle.seal_r1_bits.proofs.Entries.{end_inner, shifted, shifted_small}
-use borrow.Author.Rules.{rules}
 use Rattle.seal_r1_bits.proofs.inner_r1_byte.Given as goal
 
 abbrev pub invariant-loop-j : goal.invariant-loop-j

@@ -1,11 +1,8 @@
 use Prim.Native.Nat.{◌-◌, ◌≤◌}
 use lib.ListN.{drop}
-use mathlib.Core.Path.{◌≡◌, refl, ◌∙◌, ap}
+use mathlib.Core.Path.{◌≡◌}
 use Rattle.meaning.specs.Strings.{R1, string_of}
 use Rattle.meaning.specs.Bytes.{number}
-use native.Mathlib.Omega.{arith}
-use Rattle.seal_r1_bits.proofs.Entries.{shifted, shifted_small}
-use borrow.Author.Rules.{rules}
 use Rattle.seal_r1_bits.proofs.last_r1_byte.Given as goal
 
 abbrev pub invariant-loop-j : goal.invariant-loop-j

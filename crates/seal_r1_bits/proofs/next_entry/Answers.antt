@@ -1,7 +1,6 @@
 use Prim.Native.Nat.{◌+◌}
 use Rattle.seal_r1_bits.proofs.Entries.{next-there, next-end}
 use mathlib.Core.Path.{◌∙◌}
-use borrow.Author.Rules.{rules}
 use Rattle.seal_r1_bits.proofs.next_entry.Goals as goal
 
 pub returns-then-i-ps : goal.returns-then-i-ps

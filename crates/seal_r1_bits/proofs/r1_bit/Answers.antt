@@ -2,7 +2,6 @@ use Rattle.seal_r1_bits.proofs.Entries.{end_inner, end-last, end_after}
 use native.Mathlib.Omega.{arith}
 use mathlib.Core.Path.{sym, ◌∙◌}
 use Rattle.parents_check.proofs.Rising.{good_parents}
-use borrow.Author.Rules.{rules}
 use Rattle.seal_r1_bits.proofs.r1_bit.Goals as goal
 
 pub returns-then-i-ps : goal.returns-then-i-ps

@@ -2,7 +2,6 @@ use mathlib.Core.Path.{ap, ◌∙◌}
 use Prim.Native.Nat.{◌+◌, ◌*◌}
 use Rattle.image_words.specs.Words.{with_word}
 use Rattle.seal_sums.proofs.Laws.{sums-written}
-use borrow.Author.Rules.{rules}
 use Rattle.seal_sums.proofs.seal_block.Goals as goal
 
 pub returns : goal.returns

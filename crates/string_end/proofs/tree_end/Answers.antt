@@ -1,4 +1,4 @@
-use Prim.Native.Nat.{ℕ, ◌+◌, ◌-◌, ◌*◌, ◌/◌, ◌%◌, ◌^◌, ◌≤◌, ◌<◌}
+use Prim.Native.Nat.{ℕ, ◌-◌, ◌/◌, ◌%◌, ◌^◌, ◌≤◌, ◌<◌}
 use mathlib.Core.Path.{◌≡◌, refl, sym, ap, ◌∙◌}
 use borrow.Author.Rules.{rules}
 use native.Mathlib.Omega.{arith}
@@ -6,7 +6,6 @@ use lib.Bits.{bit_and}
 use lib.ListN.{get_or}
 use Rattle.meaning.specs.Bytes.{value, bit_at}
 use Rattle.string_end.specs.Ends.{end_of}
-use Rattle.string_end.specs.declared.TreeEnd.TheVariants.{Refused}
 use Rattle.string_end_laws.proofs.Steps.{Open, open_first, open_none, open_few, open_skip, open_wrong, open_over, open_full, open_on, byte_bit, value-le}
 use Rattle.string_skip.proofs.Whole.{all_at_once}
 use Rattle.string_end.proofs.tree_end.Goals as goal

@@ -1,15 +1,8 @@
-use Prim.Native.Nat.{ℕ, ◌+◌, ◌-◌, ◌*◌, ◌/◌, ◌%◌, ◌^◌, ◌≤◌, ◌<◌}
-use mathlib.Core.Path.{◌≡◌, refl, sym, ap, ◌∙◌}
-use borrow.Author.Rules.{rules}
-use native.Mathlib.Omega.{arith}
-use mathlib.Core.Logic.{⊎_elim}
-use lib.Bits.{bit_and}
+use Prim.Native.Nat.{◌+◌, ◌-◌, ◌*◌, ◌/◌, ◌≤◌, ◌<◌}
+use mathlib.Core.Path.{◌≡◌}
 use lib.ListN.{get_or}
-use Rattle.meaning.specs.Bytes.{value, bit_at}
-use Rattle.string_end.specs.Ends.{end_of}
 use Rattle.string_end.specs.declared.TreeEnd.TheVariants.{Refused}
-use Rattle.string_end_laws.proofs.Steps.{Open, open_first, open_none, open_few, open_skip, open_wrong, open_over, open_full, open_on, byte_bit, value-le}
-use Rattle.string_skip.proofs.Whole.{all_at_once}
+use Rattle.string_end_laws.proofs.Steps.{Open}
 use Rattle.string_end.proofs.tree_end.Given as goal
 
 abbrev pub invariant-loop-p : goal.invariant-loop-p

@@ -1,7 +1,6 @@
 use native.Mathlib.Omega.{arith}
 use Prim.Native.Nat.{◌/◌}
 use Rattle.string_read.proofs.Leftover.{no_leftover, leftover_is}
-use borrow.Author.Rules.{rules}
 use Rattle.string_read.proofs.leftover_set.Goals as goal
 
 pub returns-then-used-eq0 : goal.returns-then-used-eq0

@@ -1,7 +1,6 @@
-use Prim.Native.Nat.{◌-◌}
 use native.Mathlib.Omega.{arith}
 use Rattle.bits_byte.proofs.Values.{value-le}
-use Rattle.string_read.proofs.Writing.{Entering, entering_first, entering_next, entering_last}
+use Rattle.string_read.proofs.Writing.{entering_first, entering_next, entering_last}
 use Rattle.string_read.proofs.write_byte.Goals as goal
 
 pub loop-bit-init : goal.loop-bit-init

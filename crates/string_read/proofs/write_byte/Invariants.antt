@@ -1,7 +1,5 @@
 use Prim.Native.Nat.{◌-◌}
-use native.Mathlib.Omega.{arith}
-use Rattle.bits_byte.proofs.Values.{value-le}
-use Rattle.string_read.proofs.Writing.{Entering, entering_first, entering_next, entering_last}
+use Rattle.string_read.proofs.Writing.{Entering}
 use Rattle.string_read.proofs.write_byte.Given as goal
 
 abbrev pub invariant-loop-bit : goal.invariant-loop-bit

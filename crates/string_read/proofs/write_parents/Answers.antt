@@ -1,9 +1,7 @@
-use Prim.Native.Nat.{◌-◌, ◌*◌}
 use mathlib.Core.Path.{◌∙◌}
-use borrow.Author.Rules.{rules}
 use native.Mathlib.Omega.{arith}
 use Rattle.bits_byte.proofs.Values.{value-le}
-use Rattle.string_read.proofs.Writing.{Kept, kept-first, kept_next, kept_byte, byte_more, kept_again, kept-last, more}
+use Rattle.string_read.proofs.Writing.{kept-first, kept_next, kept_byte, byte_more, kept_again, kept-last, more}
 use Rattle.string_read.proofs.write_parents.Goals as goal
 
 pub loop-k-init : goal.loop-k-init

@@ -1,13 +1,12 @@
 use mathlib.Core.Path.{refl}
 use mathlib.Core.Logic.{inl}
 use Prim.Native.Nat.{◌+◌, ◌-◌, ◌*◌, ◌/◌, ◌≤◌}
-use borrow.Author.Rules.{rules}
 use native.Mathlib.Omega.{arith}
 use Rattle.theory.specs.Layout.{AreBytes}
 use Rattle.string_skip.specs.Strides.{ReadOn}
 use Rattle.string_skip.proofs.Whole.{none_yet, more, more_left, Told, told, and_on}
 use Rattle.string_skip.proofs.skip_bytes.Goals as goal
-use Rattle.string_skip.proofs.skip_bytes.Goals.{After-bytes_passed-passed, Else-r-passed}
+use Rattle.string_skip.proofs.skip_bytes.Goals.{Else-r-passed}
 
 known : (c : goal.Else-r-passed) →
     let r = c.loop-r.r in

@@ -1,11 +1,5 @@
-use mathlib.Core.Path.{refl}
-use mathlib.Core.Logic.{inl}
-use Prim.Native.Nat.{◌+◌, ◌-◌, ◌*◌, ◌/◌, ◌≤◌}
-use borrow.Author.Rules.{rules}
-use native.Mathlib.Omega.{arith}
-use Rattle.theory.specs.Layout.{AreBytes}
+use Prim.Native.Nat.{◌-◌, ◌/◌}
 use Rattle.string_skip.specs.Strides.{ReadOn}
-use Rattle.string_skip.proofs.Whole.{none_yet, more, more_left, Told, told, and_on}
 use Rattle.string_skip.proofs.skip_bytes.Given as goal
 
 abbrev pub invariant-loop-r : goal.invariant-loop-r

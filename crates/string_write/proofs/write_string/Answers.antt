@@ -1,9 +1,6 @@
-use Prim.Native.Nat.{◌-◌}
-use borrow.Author.Rules.{rules}
 use native.Mathlib.Omega.{arith}
-use lib.ListN.{length}
 use Rattle.parents_check.proofs.Rising.{good_parents}
-use Rattle.string_write.proofs.Marking.{Marked, marked_first, marked_next, marked_last, entry-le}
+use Rattle.string_write.proofs.Marking.{marked_first, marked_next, marked_last, entry-le}
 use Rattle.string_write.proofs.write_string.Goals as goal
 
 pub overflow_mul-ps : goal.overflow_mul-ps

@@ -1,5 +1,4 @@
 use mathlib.Core.Path.{sym, ap}
-use borrow.Author.Rules.{rules}
 use Rattle.meaning.specs.Answers.{over}
 use Rattle.table_answers.proofs.upper.Goals as goal
 

@@ -1,5 +1,4 @@
 use native.Mathlib.Omega.{arith}
-use borrow.Author.Rules.{rules}
 use Rattle.table_sizes.proofs.ToJoin.{wrong_few, wrong_many, wrong_long, wrong_bytes, wrong_trees, wrong_longer}
 use Rattle.table_sizes.proofs.join_sizes_wrong.Goals as goal
 

@@ -1,4 +1,3 @@
-use borrow.Author.Rules.{rules}
 use native.Mathlib.Omega.{arith}
 use Rattle.table_sizes.proofs.ToSplit.{wrong_long, wrong_bytes, wrong_trees}
 use Rattle.table_sizes.proofs.split_sizes_wrong.Goals as goal

@@ -1,12 +1,12 @@
 use mathlib.Core.List.{[], ◌∷◌}
-use Prim.Native.Nat.{◌+◌, ◌-◌, ◌≤◌}
+use Prim.Native.Nat.{◌+◌, ◌-◌}
 use native.Mathlib.Omega.{arith}
 use lib.ListN.{length-set}
 use Rattle.meaning.specs.Bytes.{bit_at, bits_from}
 use Rattle.theory.proofs.Packing.{bits-length}
 use Rattle.bits_byte.proofs.Values.{value-le}
 use Rattle.unseal_byte.proofs.Pieces.{bit_piece}
-use Rattle.unseal_byte.proofs.Placing.{placed-bit, Down, down-first, down-next, down-done}
+use Rattle.unseal_byte.proofs.Placing.{placed-bit, down-first, down-next, down-done}
 use Rattle.unseal_byte.proofs.write_byte_positions.Goals as goal
 
 pub loop-bit-init : goal.loop-bit-init

@@ -1,8 +1,5 @@
-use Prim.Native.Nat.{◌+◌, ◌*◌, ◌-◌, ◌≤◌, min}
 use native.Mathlib.Omega.{arith}
-use borrow.Author.Rules.{rules}
-use Rattle.theory.specs.Stages.{word_blocks}
-use Rattle.unseal_metres.proofs.Copying.{Copying, copying_first, copying_here, copying_block, copying_next, copying_last}
+use Rattle.unseal_metres.proofs.Copying.{copying_first, copying_here, copying_block, copying_next, copying_last}
 use Rattle.unseal_metres.proofs.write_metres.Goals as goal
 
 pub loop-j-init : goal.loop-j-init

@@ -1,12 +1,12 @@
 use mathlib.Core.Path.{refl, ◌∙◌}
 use mathlib.Core.List.{[], ◌∷◌}
-use Prim.Native.Nat.{◌+◌, ◌-◌, ◌*◌, ◌/◌, ◌%◌, ◌≤◌}
+use Prim.Native.Nat.{◌+◌, ◌*◌, ◌%◌}
 use native.Mathlib.Omega.{arith}
 use lib.ListN.{get_or}
 use Rattle.meaning.specs.Bytes.{bits_from}
 use Rattle.theory.proofs.Packing.{bits-length}
 use Rattle.unseal_byte.proofs.Pieces.{byte_piece}
-use Rattle.unseal_parents.proofs.Spreading.{Up, up_first, up-behind, up_room, up_next, up_done}
+use Rattle.unseal_parents.proofs.Spreading.{up_first, up-behind, up_room, up_next, up_done}
 use Rattle.unseal_parents.proofs.spread_block.Goals as goal
 
 pub loop-w-init : goal.loop-w-init

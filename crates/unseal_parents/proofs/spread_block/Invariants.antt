@@ -1,12 +1,6 @@
-use mathlib.Core.Path.{refl, ◌∙◌}
-use mathlib.Core.List.{[], ◌∷◌}
-use Prim.Native.Nat.{◌+◌, ◌-◌, ◌*◌, ◌/◌, ◌%◌, ◌≤◌}
-use native.Mathlib.Omega.{arith}
-use lib.ListN.{get_or}
+use Prim.Native.Nat.{◌-◌, ◌*◌, ◌/◌, ◌≤◌}
 use Rattle.meaning.specs.Bytes.{bits_from}
-use Rattle.theory.proofs.Packing.{bits-length}
-use Rattle.unseal_byte.proofs.Pieces.{byte_piece}
-use Rattle.unseal_parents.proofs.Spreading.{Up, up_first, up-behind, up_room, up_next, up_done}
+use Rattle.unseal_parents.proofs.Spreading.{Up}
 use Rattle.unseal_parents.proofs.spread_block.Given as goal
 
 abbrev pub invariant-loop-w : goal.invariant-loop-w

@@ -1,12 +1,12 @@
 use mathlib.Core.List.{[], ◌∷◌}
-use Prim.Native.Nat.{◌+◌, ◌-◌, ◌≤◌}
+use Prim.Native.Nat.{◌+◌}
 use native.Mathlib.Omega.{arith}
 use lib.ListN.{get_or, length-set}
 use Rattle.meaning.specs.Bytes.{bit_at, bits_from}
 use Rattle.theory.proofs.Packing.{bits-length}
 use Rattle.bits_byte.proofs.Values.{value-le}
 use Rattle.unseal_byte.proofs.Pieces.{bit_piece}
-use Rattle.unseal_parents.proofs.Spreading.{spread-bit, Up, up_first, up_next, up_done}
+use Rattle.unseal_parents.proofs.Spreading.{spread-bit, up_first, up_next, up_done}
 use Rattle.unseal_parents.proofs.spread_byte.Goals as goal
 
 pub loop-bit-init : goal.loop-bit-init

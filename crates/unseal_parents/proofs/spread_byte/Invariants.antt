@@ -1,12 +1,7 @@
 use mathlib.Core.List.{[], ◌∷◌}
-use Prim.Native.Nat.{◌+◌, ◌-◌, ◌≤◌}
-use native.Mathlib.Omega.{arith}
-use lib.ListN.{get_or, length-set}
-use Rattle.meaning.specs.Bytes.{bit_at, bits_from}
-use Rattle.theory.proofs.Packing.{bits-length}
-use Rattle.bits_byte.proofs.Values.{value-le}
-use Rattle.unseal_byte.proofs.Pieces.{bit_piece}
-use Rattle.unseal_parents.proofs.Spreading.{spread-bit, Up, up_first, up_next, up_done}
+use Prim.Native.Nat.{◌-◌, ◌≤◌}
+use Rattle.meaning.specs.Bytes.{bits_from}
+use Rattle.unseal_parents.proofs.Spreading.{Up}
 use Rattle.unseal_parents.proofs.spread_byte.Given as goal
 
 abbrev pub invariant-loop-bit : goal.invariant-loop-bit

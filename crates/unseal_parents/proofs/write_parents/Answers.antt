@@ -1,7 +1,6 @@
 use mathlib.Core.Path.{sym, ap₂, ◌∙◌}
 use Prim.Native.Nat.{◌-◌}
 use native.Mathlib.Omega.{arith}
-use borrow.Author.Rules.{rules}
 use lib.ListN.{length-set}
 use Rattle.meaning.specs.Strings.{parents_of, woven}
 use Rattle.meaning.specs.Image.{string_in}

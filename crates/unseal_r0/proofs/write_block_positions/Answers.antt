@@ -1,13 +1,13 @@
 use mathlib.Core.Path.{refl, ◌∙◌}
 use mathlib.Core.List.{[], ◌∷◌}
-use Prim.Native.Nat.{◌+◌, ◌-◌, ◌*◌, ◌/◌, ◌%◌, ◌≤◌}
+use Prim.Native.Nat.{◌+◌, ◌-◌, ◌*◌, ◌/◌, ◌%◌}
 use native.Mathlib.Omega.{arith}
 use lib.ListN.{get_or}
 use Rattle.meaning.specs.Bytes.{bits_from}
 use Rattle.theory.proofs.Packing.{bits-length}
 use Rattle.bits_count.proofs.Runs.{bits-take}
 use Rattle.unseal_byte.proofs.Pieces.{byte_piece}
-use Rattle.unseal_byte.proofs.Placing.{placed-zeros, Down, down-room, down-next, down-done, last-room, last-down, down_again, down-joined}
+use Rattle.unseal_byte.proofs.Placing.{placed-zeros, down-room, down-next, down-done, last-room, last-down, down_again, down-joined}
 use Rattle.unseal_r0.proofs.write_block_positions.Goals as goal
 
 pub overflow_add-at : goal.overflow_add-at

@@ -1,13 +1,6 @@
-use mathlib.Core.Path.{refl, ◌∙◌}
-use mathlib.Core.List.{[], ◌∷◌}
-use Prim.Native.Nat.{◌+◌, ◌-◌, ◌*◌, ◌/◌, ◌%◌, ◌≤◌}
-use native.Mathlib.Omega.{arith}
-use lib.ListN.{get_or}
+use Prim.Native.Nat.{◌*◌, ◌≤◌}
 use Rattle.meaning.specs.Bytes.{bits_from}
-use Rattle.theory.proofs.Packing.{bits-length}
-use Rattle.bits_count.proofs.Runs.{bits-take}
-use Rattle.unseal_byte.proofs.Pieces.{byte_piece}
-use Rattle.unseal_byte.proofs.Placing.{placed-zeros, Down, down-room, down-next, down-done, last-room, last-down, down_again, down-joined}
+use Rattle.unseal_byte.proofs.Placing.{Down}
 use Rattle.unseal_r0.proofs.write_block_positions.Given as goal
 
 -- the whole bytes, after the bits after them were placed

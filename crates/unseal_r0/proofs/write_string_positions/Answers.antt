@@ -1,12 +1,12 @@
 use mathlib.Core.Path.{◌∙◌}
-use Prim.Native.Nat.{◌-◌, ◌*◌, ◌/◌, ◌%◌, ◌≤◌}
+use Prim.Native.Nat.{◌-◌, ◌*◌, ◌/◌, ◌%◌}
 use native.Mathlib.Omega.{arith}
 use Rattle.meaning.specs.Bytes.{bits_from}
 use Rattle.meaning.specs.Image.{string_in}
 use Rattle.theory.proofs.TreeImages.{length-string_in}
 use Rattle.theory.proofs.InBlocks.{string_in-take}
 use Rattle.unseal_byte.proofs.Pieces.{block_piece}
-use Rattle.unseal_byte.proofs.Placing.{Down, down-room, down-next, down-done, placed_at, last-room, last-down, down_again, down-joined}
+use Rattle.unseal_byte.proofs.Placing.{down-room, down-next, down-done, placed_at, last-room, last-down, down_again, down-joined}
 use Rattle.unseal_r0.proofs.write_string_positions.Goals as goal
 
 pub overflow_add-bits_block : goal.overflow_add-bits_block

@@ -1,12 +1,6 @@
-use mathlib.Core.Path.{◌∙◌}
-use Prim.Native.Nat.{◌-◌, ◌*◌, ◌/◌, ◌%◌, ◌≤◌}
-use native.Mathlib.Omega.{arith}
-use Rattle.meaning.specs.Bytes.{bits_from}
+use Prim.Native.Nat.{◌*◌, ◌≤◌}
 use Rattle.meaning.specs.Image.{string_in}
-use Rattle.theory.proofs.TreeImages.{length-string_in}
-use Rattle.theory.proofs.InBlocks.{string_in-take}
-use Rattle.unseal_byte.proofs.Pieces.{block_piece}
-use Rattle.unseal_byte.proofs.Placing.{Down, down-room, down-next, down-done, placed_at, last-room, last-down, down_again, down-joined}
+use Rattle.unseal_byte.proofs.Placing.{Down}
 use Rattle.unseal_r0.proofs.write_string_positions.Given as goal
 
 -- the whole blocks, after the bits after them were placed
