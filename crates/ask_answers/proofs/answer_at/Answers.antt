@@ -11,7 +11,11 @@ answer_kind-requires c =
     let f = fine _ _ (question_at c.args.asked.now c.args.i) c.requires.i_value in
     let k = c.number-kind.ensures ∙ ap number_of c.signed_at.ensures in
     let x = c.number-node.ensures ∙ ap number_of c.signed_at-2.ensures in
-    record { node = record { sound = c.requires.b_value; some = omega (arith, f.some, x); most = omega (arith, f.within, x) }; le_kind = omega (arith, f.least, k); kind_bound = omega (arith, f.most, k) }
+    record {
+      node = record { sound = c.requires.b_value; some = omega (arith, f.some, x); most = omega (arith, f.within, x) };
+      le_kind = omega (arith, f.least, k);
+      kind_bound = omega (arith, f.most, k);
+    }
 
 pub returns : goal.returns
 returns c =

@@ -54,7 +54,8 @@ returns c =
     let w = c.args.word in
     let k = c.args.k in
     let i = byte (goal.at.returns c).After-count_lanes-ones in
-    ap (λ v. 8 * i + v) (c.select_in_byte.ensures ∙ ap₂ (λ y m. position (byte_bits y) (k - m)) (its-byte (goal.at.returns c).After-count_lanes-ones) (passed (goal.at.returns c).After-count_lanes-ones))
+    ap (λ v. 8 * i + v) (c.select_in_byte.ensures ∙ ap₂ (λ y m. position (byte_bits y) (k - m)) (its-byte (goal.at.returns c).After-count_lanes-ones)
+    (passed (goal.at.returns c).After-count_lanes-ones))
     ∙ ap (λ m. 8 * i + position (byte_bits (lane w i)) (m - ones (word_bits w i))) (sym (sub-zero k))
     ∙ sym (it-is (goal.at.returns c).After-count_lanes-ones).place
     ∙ ap (position (word_bits w 8)) (sub-zero k)
@@ -87,7 +88,8 @@ pub overflow_shr-need : goal.overflow_shr-need
 overflow_shr-need c = omega (arith, (it-is (goal.at.overflow_shr-need c).After-count_lanes-ones).within)
 
 pub overflow_cast-need-2 : goal.overflow_cast-need-2
-overflow_cast-need-2 c = let f = it-is (goal.at.overflow_cast-need-2 c).After-count_lanes-ones in omega (arith, passed (goal.at.overflow_cast-need-2 c).After-count_lanes-ones, f.short, few (goal.at.overflow_cast-need-2 c).Start)
+overflow_cast-need-2 c = let f = it-is (goal.at.overflow_cast-need-2 c).After-count_lanes-ones in omega
+    (arith, passed (goal.at.overflow_cast-need-2 c).After-count_lanes-ones, f.short, few (goal.at.overflow_cast-need-2 c).Start)
 
 pub overflow_sub-need : goal.overflow_sub-need
 overflow_sub-need c = let f = it-is (goal.at.overflow_sub-need c).After-count_lanes-ones in omega (arith, passed (goal.at.overflow_sub-need c).After-count_lanes-ones, f.short)

@@ -57,22 +57,30 @@ pub returns-then-bad-ne0 : goal.returns-then-bad-ne0
 returns-then-bad-ne0 c =
     let a = c.args in
     ap (λ r. came_to r a.answers.now) (c.refuse-then-bad-ne0.ensures ∙ ap (refused_with 8) (lowest (goal.at.returns-then-bad-ne0 c).After-lowest_not_allowed-bad))
-    ∙ asked_bad a.b.now a.questions.now a.answers.now (right (goal.at.returns-then-bad-ne0 c).After-lowest_not_allowed-bad) _ (sound (goal.at.returns-then-bad-ne0 c).After-lowest_not_allowed-bad) (λ e. c.if-bad-ne0.true (lowest (goal.at.returns-then-bad-ne0 c).After-lowest_not_allowed-bad ∙ e))
+    ∙ asked_bad a.b.now a.questions.now a.answers.now (right (goal.at.returns-then-bad-ne0 c).After-lowest_not_allowed-bad) _
+    (sound (goal.at.returns-then-bad-ne0 c).After-lowest_not_allowed-bad) (λ e. c.if-bad-ne0.true (lowest (goal.at.returns-then-bad-ne0 c).After-lowest_not_allowed-bad ∙ e))
 
 pub returns-then-answers-count : goal.returns-then-answers-count
 returns-then-answers-count c =
     let a = c.args in
     ap (λ r. came_to r a.answers.now) c.refuse-then-answers-count.ensures
-    ∙ asked_short a.b.now a.questions.now a.answers.now (right (goal.at.returns-then-answers-count c).After-lowest_not_allowed-bad) _ (sound (goal.at.returns-then-answers-count c).After-lowest_not_allowed-bad) (sym (lowest (goal.at.returns-then-answers-count c).After-lowest_not_allowed-bad) ∙ c.if-bad-ne0.false) c.if-answers-count.true
+    ∙ asked_short a.b.now a.questions.now a.answers.now (right (goal.at.returns-then-answers-count c).After-lowest_not_allowed-bad) _
+    (sound (goal.at.returns-then-answers-count c).After-lowest_not_allowed-bad)
+    (sym (lowest (goal.at.returns-then-answers-count c).After-lowest_not_allowed-bad) ∙ c.if-bad-ne0.false) c.if-answers-count.true
 
 pub write_answers-requires : goal.write_answers-requires
 write_answers-requires c =
     let a = c.args in
-    record { b_value = sound (goal.at.write_answers-requires c).After-lowest_not_allowed-bad; asked_value = sym (lowest (goal.at.write_answers-requires c).After-lowest_not_allowed-bad) ∙ c.if-bad-ne0.false; asked_in_bounds = omega (arith, questions-count a.questions.now, c.if-answers-count.false) }
+    record {
+      b_value = sound (goal.at.write_answers-requires c).After-lowest_not_allowed-bad;
+      asked_value = sym (lowest (goal.at.write_answers-requires c).After-lowest_not_allowed-bad) ∙ c.if-bad-ne0.false;
+      asked_in_bounds = omega (arith, questions-count a.questions.now, c.if-answers-count.false);
+    }
 
 pub returns : goal.returns
 returns c =
     let a = c.args in
     ap₂ came_to c.done.ensures c.write_answers.ensures
-    ∙ asked_answered a.b.now a.questions.now a.answers.now (right (goal.at.returns c).After-lowest_not_allowed-bad) _ (sound (goal.at.returns c).After-lowest_not_allowed-bad) (sym (lowest (goal.at.returns c).After-lowest_not_allowed-bad) ∙ c.if-bad-ne0.false)
+    ∙ asked_answered a.b.now a.questions.now a.answers.now (right (goal.at.returns c).After-lowest_not_allowed-bad) _ (sound (goal.at.returns c).After-lowest_not_allowed-bad)
+    (sym (lowest (goal.at.returns c).After-lowest_not_allowed-bad) ∙ c.if-bad-ne0.false)
     c.if-answers-count.false

@@ -20,7 +20,11 @@ pub returns-then-join_sizes_wrong : goal.returns-then-join_sizes_wrong
 returns-then-join_sizes_wrong c = answered c.refuse.ensures (join_wrong _ _ _ _ c.join_sizes_wrong.ensures c.if-join_sizes_wrong.true)
 
 pub check_pack-held-requires : goal.check_pack-held-requires
-check_pack-held-requires c = let z = sized (goal.at.check_pack-held-requires c).Else-join_sizes_wrong in record { n_bound = omega (arith, z.bytes); n_bound_2 = omega (arith, z.fits); trees_bound = omega (arith, z.room) }
+check_pack-held-requires c = let z = sized (goal.at.check_pack-held-requires c).Else-join_sizes_wrong in record {
+  n_bound = omega (arith, z.bytes);
+  n_bound_2 = omega (arith, z.fits);
+  trees_bound = omega (arith, z.room);
+}
 
 pub bad_entry-bad-requires : goal.bad_entry-bad-requires
 bad_entry-bad-requires c = let z = sized (goal.at.bad_entry-bad-requires c).Else-join_sizes_wrong in record { in_bounds = z.some; ps_len_bound = z.most }
@@ -54,7 +58,13 @@ returns-then-pack-longer c =
 pub write_string-requires : goal.write_string-requires
 write_string-requires c =
     let z = sized (goal.at.write_string-requires c).Else-join_sizes_wrong in
-    record { in_bounds = z.some; ps_len_bound = z.most; ps_value = sym c.bad_entry-bad.ensures ∙ c.if-bad-ne0.false; from_bound = omega (arith, z.fits); ps_bound = omega (arith, c.if-pack-longer.false) }
+    record {
+      in_bounds = z.some;
+      ps_len_bound = z.most;
+      ps_value = sym c.bad_entry-bad.ensures ∙ c.if-bad-ne0.false;
+      from_bound = omega (arith, z.fits);
+      ps_bound = omega (arith, c.if-pack-longer.false);
+    }
 
 pub overflow_cast-found : goal.overflow_cast-found
 overflow_cast-found c = let z = sized (goal.at.overflow_cast-found c).Else-join_sizes_wrong in omega arith

@@ -28,7 +28,8 @@ returns-in_default-at c =
 pub returns-then-out-nodes : goal.returns-then-out-nodes
 returns-then-out-nodes c =
     let a = c.args in
-    answered c.refuse-then-out-nodes.ensures (metres-short a.b.now a.out.now (layout (goal.at.returns-then-out-nodes c).In-Sound) (sound (goal.at.returns-then-out-nodes c).In-Sound) _ c.in-From.is c.if-out-nodes.true)
+    answered c.refuse-then-out-nodes.ensures
+    (metres-short a.b.now a.out.now (layout (goal.at.returns-then-out-nodes c).In-Sound) (sound (goal.at.returns-then-out-nodes c).In-Sound) _ c.in-From.is c.if-out-nodes.true)
 
 pub write_metres-requires : goal.write_metres-requires
 write_metres-requires c =

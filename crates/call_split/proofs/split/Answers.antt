@@ -54,7 +54,8 @@ pub returns-else-counts-trees : goal.returns-else-counts-trees
 returns-else-counts-trees c =
     let h = c.check_and_note-held.ensures in
     let all = c.in-Passed.is in
-    split_done _ _ _ _ _ (sized (goal.at.returns-else-counts-trees c).Else-split_sizes_wrong) (sym all ∙ c.check_and_note-held.ensures.value) _ c.done.ensures refl (c.check_and_note-held.ensures.firsts_after all) (c.check_and_note-held.ensures.counts_after all)
+    split_done _ _ _ _ _ (sized (goal.at.returns-else-counts-trees c).Else-split_sizes_wrong) (sym all ∙ c.check_and_note-held.ensures.value) _ c.done.ensures refl
+    (c.check_and_note-held.ensures.firsts_after all) (c.check_and_note-held.ensures.counts_after all)
     c.hand_over.ensures c.hand_over-in-Passed.ensures
     c.if-firsts-trees.false
     c.if-counts-trees.false

@@ -21,7 +21,16 @@ piece_sampled-requires c =
     let most = ones_to-le b a.bits_block (4000 * a.j) in
     let whole = ones_to-block b a.bits_block a.j a.n (omega arith) in
     let same = ap (λ m. ones (bits_from b (8 * (512 * (a.bits_block + a.j) + 4)) m)) (piece_bits a.j a.n) in
-    record { at_bound = omega arith; piece_bound = omega arith; first_bound = omega arith; k_bound = omega arith; samples_le_most_block = omega arith; end_value = omega arith; at_in_bounds = omega arith; end_in_bounds = omega arith }
+    record {
+      at_bound = omega arith;
+      piece_bound = omega arith;
+      first_bound = omega arith;
+      k_bound = omega arith;
+      samples_le_most_block = omega arith;
+      end_value = omega arith;
+      at_in_bounds = omega arith;
+      end_in_bounds = omega arith;
+    }
 
 pub returns : goal.returns
 returns c =

@@ -55,7 +55,14 @@ returns-then-m-end c =
       few = c.loop-j.invariant.2;
       sampled = c.loop-j.invariant.3;
       stopped = λ h right.
-          omega (arith, next (goal.at.returns-then-m-end c).After-word-end, right.counted (j + 1) (omega arith), ones_to_mono a.b.now a.bits_block (4000 * (j + 1)) (4000 * ((a.n - 1) / 4000)) (omega arith), right.few);
+          omega (
+            arith,
+            next (goal.at.returns-then-m-end c).After-word-end,
+            right.counted (j + 1) (omega arith),
+            ones_to_mono a.b.now a.bits_block (4000 * (j + 1))
+                (4000 * ((a.n - 1) / 4000)) (omega arith),
+            right.few,
+          );
     }
 
 pub overflow_cast-end : goal.overflow_cast-end
@@ -64,7 +71,14 @@ overflow_cast-end c = omega arith
 pub full_block_right-requires : goal.full_block_right-requires
 full_block_right-requires c =
     let l = c.loop-j in
-    record { j_bound = omega arith; bits_block_le_most_block = omega arith; samples_le_most_block = omega arith; j_in_bounds = omega arith; end_in_bounds = omega arith; j_value = l.invariant.1 l.j (omega arith) }
+    record {
+      j_bound = omega arith;
+      bits_block_le_most_block = omega arith;
+      samples_le_most_block = omega arith;
+      j_in_bounds = omega arith;
+      end_in_bounds = omega arith;
+      j_value = l.invariant.1 l.j (omega arith);
+    }
 
 pub returns-then-not-full_block_right : goal.returns-then-not-full_block_right
 returns-then-not-full_block_right c =
@@ -78,7 +92,8 @@ returns-then-not-full_block_right c =
       stopped = λ h right.
           decides_missed c.full_block_right.result (BlockRight a.b.now a.samples a.bits_block j c.word-end.result)
           c.full_block_right.ensures c.if-not-full_block_right.true (
-            next (goal.at.returns-then-not-full_block_right c).After-word-end ∙ right.counted (j + 1) (omega arith) ∙ ap (ones_to a.b.now a.bits_block) (let e : 4000 * (j + 1) ≡ 4000 * j + 4000 = omega arith in e),
+            next (goal.at.returns-then-not-full_block_right c).After-word-end ∙ right.counted (j + 1) (omega arith) ∙ ap (ones_to a.b.now a.bits_block)
+                (let e : 4000 * (j + 1) ≡ 4000 * j + 4000 = omega arith in e),
             λ p f g. right.sampled p (omega arith) (omega arith),
           );
     }

@@ -35,7 +35,16 @@ overflow_sub-s c = omega arith
 
 pub sample_right-requires : goal.sample_right-requires
 sample_right-requires c =
-    record { at_bound = omega arith; piece_bound = omega arith; first_bound = omega arith; le_nth = omega arith; nth_bound = omega arith; p_in_bounds = omega arith; at_in_bounds = omega arith; counts_before = c.requires.counts_before }
+    record {
+      at_bound = omega arith;
+      piece_bound = omega arith;
+      first_bound = omega arith;
+      le_nth = omega arith;
+      nth_bound = omega arith;
+      p_in_bounds = omega arith;
+      at_in_bounds = omega arith;
+      counts_before = c.requires.counts_before;
+    }
 
 pub returns-then-not-sample_right : goal.returns-then-not-sample_right
 returns-then-not-sample_right c = λ all.

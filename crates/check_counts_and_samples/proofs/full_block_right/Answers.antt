@@ -18,7 +18,15 @@ pub full_piece_right-requires : goal.full_piece_right-requires
 full_piece_right-requires c =
     let a = c.args in
     let most = ones_to-le a.b.now a.bits_block (4000 * a.j) in
-    record { at_bound = omega arith; piece_value = omega arith; first_bound = omega arith; k_bound = omega arith; samples_le_most_block = omega arith; at_in_bounds = omega arith; end_in_bounds = omega arith }
+    record {
+      at_bound = omega arith;
+      piece_value = omega arith;
+      first_bound = omega arith;
+      k_bound = omega arith;
+      samples_le_most_block = omega arith;
+      at_in_bounds = omega arith;
+      end_in_bounds = omega arith;
+    }
 
 pub returns : goal.returns
 returns c =

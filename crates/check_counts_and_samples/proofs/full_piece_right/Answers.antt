@@ -56,7 +56,17 @@ returns-then-k-table c = λ p. c.if-k-table.true (omega (arith, whole (goal.at.r
 pub each_sampled-requires : goal.each_sampled-requires
 each_sampled-requires c =
     let e = whole (goal.at.each_sampled-requires c).After-ones_from in
-    record { at_bound = omega arith; piece_bound = omega arith; first_bound = omega arith; k_bound = omega arith; samples_le_most_block = omega arith; end_value = omega (arith, c.if-k-table.false); at_in_bounds = omega arith; end_in_bounds = omega arith; counts_before = counts (goal.at.each_sampled-requires c).After-add_up }
+    record {
+      at_bound = omega arith;
+      piece_bound = omega arith;
+      first_bound = omega arith;
+      k_bound = omega arith;
+      samples_le_most_block = omega arith;
+      end_value = omega (arith, c.if-k-table.false);
+      at_in_bounds = omega arith;
+      end_in_bounds = omega arith;
+      counts_before = counts (goal.at.each_sampled-requires c).After-add_up;
+    }
 
 pub returns : goal.returns
 returns c =

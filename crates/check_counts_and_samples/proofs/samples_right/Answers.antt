@@ -17,7 +17,16 @@ block_sampled-requires c =
     let a = c.args in
     let j = c.last_block-last.result in
     let end = c.requires.m_value ∙ ap (ones_to a.b.now a.bits_block) (let e : a.n ≡ 4000 * j + (a.n - 4000 * j) = omega arith in e) in
-    record { n_bound = omega arith; j_bound = omega arith; bits_block_le_most_block = omega arith; samples_le_most_block = omega arith; end_value = end; j_in_bounds = omega arith; end_in_bounds = omega arith; j_value = c.requires.blocks_right.counted j (omega arith) }
+    record {
+      n_bound = omega arith;
+      j_bound = omega arith;
+      bits_block_le_most_block = omega arith;
+      samples_le_most_block = omega arith;
+      end_value = end;
+      j_in_bounds = omega arith;
+      end_in_bounds = omega arith;
+      j_value = c.requires.blocks_right.counted j (omega arith);
+    }
 
 pub returns-then-not-block_sampled : goal.returns-then-not-block_sampled
 returns-then-not-block_sampled c =

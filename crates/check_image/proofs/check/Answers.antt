@@ -67,7 +67,8 @@ returns-then-wrong-blocks c =
     let bytes = c.args.b.now in
     let e = c.wrong_block-wrong.ensures in
     let wrong = lt-ltb (wrong_block bytes) (blocks_in bytes) (omega (arith, e, c.if-wrong-blocks.true)) in
-    c.refused-then-wrong-blocks.ensures ∙ ap (λ p. Refused (record { code = 6; place = p })) e ∙ found-block bytes (none_wrong bytes (sized (goal.at.returns-then-wrong-blocks c).Else-image_size_wrong)) wrong
+    c.refused-then-wrong-blocks.ensures ∙ ap (λ p. Refused (record { code = 6; place = p })) e ∙ found-block bytes
+    (none_wrong bytes (sized (goal.at.returns-then-wrong-blocks c).Else-image_size_wrong)) wrong
 
 pub version_known-requires : goal.version_known-requires
 version_known-requires c = let z = sized (goal.at.version_known-requires c).Else-image_size_wrong in omega (arith, z.some)
@@ -76,16 +77,22 @@ pub returns-then-not-version_known : goal.returns-then-not-version_known
 returns-then-not-version_known c =
     let bytes = c.args.b.now in
     c.refused_by.ensures
-    ∙ other-version bytes (are (goal.at.returns-then-not-version_known c).Else-wrong-blocks) (sized (goal.at.returns-then-not-version_known c).Else-image_size_wrong) (summed (goal.at.returns-then-not-version_known c).Else-wrong-blocks) (decides_missed c.version_known.result _ c.version_known.ensures c.if-not-version_known.true)
+    ∙ other-version bytes (are (goal.at.returns-then-not-version_known c).Else-wrong-blocks) (sized (goal.at.returns-then-not-version_known c).Else-image_size_wrong)
+    (summed (goal.at.returns-then-not-version_known c).Else-wrong-blocks) (decides_missed c.version_known.result _ c.version_known.ensures c.if-not-version_known.true)
 
 pub read_header-header-requires : goal.read_header-header-requires
-read_header-header-requires c = let z = sized (goal.at.read_header-header-requires c).Else-image_size_wrong in record { b_len = omega (arith, z.whole); le_blocks = omega (arith, z.some); blocks_le_most_block = omega (arith, z.most) }
+read_header-header-requires c = let z = sized (goal.at.read_header-header-requires c).Else-image_size_wrong in record {
+  b_len = omega (arith, z.whole);
+  le_blocks = omega (arith, z.some);
+  blocks_le_most_block = omega (arith, z.most);
+}
 
 pub returns-in_default : goal.returns-in_default
 returns-in_default c =
     let bytes = c.args.b.now in
     let wrong = subst (λ h. HeaderIs h bytes) c.in_default.is c.read_header-header.ensures in
-    c.refused_by-in_default.ensures ∙ wrong_header bytes (are (goal.at.returns-in_default c).Else-wrong-blocks) (sized (goal.at.returns-in_default c).Else-image_size_wrong) (summed (goal.at.returns-in_default c).Else-wrong-blocks) (known (goal.at.returns-in_default c).Else-not-version_known) wrong
+    c.refused_by-in_default.ensures ∙ wrong_header bytes (are (goal.at.returns-in_default c).Else-wrong-blocks) (sized (goal.at.returns-in_default c).Else-image_size_wrong)
+    (summed (goal.at.returns-in_default c).Else-wrong-blocks) (known (goal.at.returns-in_default c).Else-not-version_known) wrong
 
 pub stages_pass-requires : goal.stages_pass-requires
 stages_pass-requires c = fitting (goal.at.stages_pass-requires c).In-Right
@@ -96,7 +103,9 @@ returns-then-stages_pass c =
     let bytes = c.args.b.now in
     let layout = c.in-Right.layout in
     let passed = subst (λ t. Decides t (StagesPass bytes layout)) c.if-stages_pass.true c.stages_pass.ensures in
-    ap Sound h.1 ∙ all_right bytes (are (goal.at.returns-then-stages_pass c).Else-wrong-blocks) (sized (goal.at.returns-then-stages_pass c).Else-image_size_wrong) (summed (goal.at.returns-then-stages_pass c).Else-wrong-blocks) (known (goal.at.returns-then-stages_pass c).Else-not-version_known) h.0 (together bytes _ h.1 (known (goal.at.returns-then-stages_pass c).Else-not-version_known) h.0 passed)
+    ap Sound h.1 ∙ all_right bytes (are (goal.at.returns-then-stages_pass c).Else-wrong-blocks) (sized (goal.at.returns-then-stages_pass c).Else-image_size_wrong)
+    (summed (goal.at.returns-then-stages_pass c).Else-wrong-blocks) (known (goal.at.returns-then-stages_pass c).Else-not-version_known) h.0
+    (together bytes _ h.1 (known (goal.at.returns-then-stages_pass c).Else-not-version_known) h.0 passed)
 
 pub what_is_wrong-requires : goal.what_is_wrong-requires
 what_is_wrong-requires c =
@@ -111,4 +120,5 @@ returns c =
     let missed = subst (λ t. Decides t (StagesPass bytes layout)) c.if-stages_pass.false c.stages_pass.ensures in
     c.refused_by-2.ensures
     ∙ ap (λ f. Refused (numbered f)) c.what_is_wrong.ensures
-    ∙ some_wrong bytes (are (goal.at.returns c).Else-wrong-blocks) (sized (goal.at.returns c).Else-image_size_wrong) (summed (goal.at.returns c).Else-wrong-blocks) (known (goal.at.returns c).Else-not-version_known) h.0 (λ stages. missed (apart bytes _ h.1 stages))
+    ∙ some_wrong bytes (are (goal.at.returns c).Else-wrong-blocks) (sized (goal.at.returns c).Else-image_size_wrong) (summed (goal.at.returns c).Else-wrong-blocks)
+    (known (goal.at.returns c).Else-not-version_known) h.0 (λ stages. missed (apart bytes _ h.1 stages))

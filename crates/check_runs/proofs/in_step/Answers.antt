@@ -28,7 +28,15 @@ loop-j-init c = (omega arith, λ p h g. absurd (omega arith))
 pub full_block_in_step-requires : goal.full_block_in_step-requires
 full_block_in_step-requires c =
     let p = c.requires in
-    record { laid_out = p.laid_out; runs_bound = p.runs_bound; j_bound = omega (arith, c.last_block-last.ensures); counted = p.counted; counted_2 = p.counted_2; placed = p.placed; placed_2 = p.placed_2 }
+    record {
+      laid_out = p.laid_out;
+      runs_bound = p.runs_bound;
+      j_bound = omega (arith, c.last_block-last.ensures);
+      counted = p.counted;
+      counted_2 = p.counted_2;
+      placed = p.placed;
+      placed_2 = p.placed_2;
+    }
 
 pub returns-then-not-full_block_in_step : goal.returns-then-not-full_block_in_step
 returns-then-not-full_block_in_step c =

@@ -44,7 +44,14 @@ byte_in_step-requires c =
     let i = c.loop-i.i in
     let most1 = bits-ones-le b (8 * a.at1) (8 * i) in
     let most0 = bits-ones-le b (8 * a.at0) (8 * i) in
-    record { b_len_bound = omega arith; at1_in_bounds = omega arith; at0_in_bounds = omega arith; ones1_bound = omega arith; ones0_bound = omega arith; more_value = c.ones_in_byte-more.ensures ∙ whole_byte_run b (a.at1 + i) }
+    record {
+      b_len_bound = omega arith;
+      at1_in_bounds = omega arith;
+      at0_in_bounds = omega arith;
+      ones1_bound = omega arith;
+      ones0_bound = omega arith;
+      more_value = c.ones_in_byte-more.ensures ∙ whole_byte_run b (a.at1 + i);
+    }
 
 pub returns-then-not-byte_in_step : goal.returns-then-not-byte_in_step
 returns-then-not-byte_in_step c = λ all.

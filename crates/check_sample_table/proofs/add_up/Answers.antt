@@ -35,7 +35,12 @@ pub put_before-sum-requires-in-loop-w : goal.put_before-sum-requires-in-loop-w
 put_before-sum-requires-in-loop-w c =
     let s = first (goal.at.put_before-sum-requires-in-loop-w c).After-put_before-sum in
     let w = c.loop-w.w in
-    record { table_len = s.0; w_bound = omega arith; w_bound_2 = summed-few c.args.table.now c.requires.by_index c.put_before-sum.new.table c.put_before-sum.result (w + 1) (omega arith) s; sum_bound = s.2 }
+    record {
+      table_len = s.0;
+      w_bound = omega arith;
+      w_bound_2 = summed-few c.args.table.now c.requires.by_index c.put_before-sum.new.table c.put_before-sum.result (w + 1) (omega arith) s;
+      sum_bound = s.2;
+    }
 
 second : (c : goal.After-put_before-sum-in-loop-w)
     → let l = c.loop-w in
@@ -69,7 +74,8 @@ loop-w-preserved c =
     let s = second (goal.at.loop-w-preserved c).After-put_before-sum-in-loop-w in
     let third =
     summed_more c.args.table.now c.requires.by_index c.put_before-sum-in-loop-w.new.table c.put_before-sum-in-loop-w.result (w + 1 + 1) (omega arith) s
-    c.put_before-sum-in-loop-w-2.new.table c.put_before-sum-in-loop-w-2.result (rw (← two w) at c.put_before-sum-in-loop-w-2.ensures.table_after) (rw (← two w) at c.put_before-sum-in-loop-w-2.ensures.value) in
+    c.put_before-sum-in-loop-w-2.new.table c.put_before-sum-in-loop-w-2.result (rw (← two w) at c.put_before-sum-in-loop-w-2.ensures.table_after)
+    (rw (← two w) at c.put_before-sum-in-loop-w-2.ensures.value) in
     (omega arith, omega arith, rw (three w) at third)
 
 pub returns : goal.returns

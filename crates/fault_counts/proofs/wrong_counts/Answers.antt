@@ -30,7 +30,14 @@ after-r0 c =
 pub wrong_in_string-in_r1-requires : goal.wrong_in_string-in_r1-requires
 wrong_in_string-in_r1-requires c =
     let p = c.requires in
-    record { le_n = omega (arith, p.laid_out); n_bound = omega (arith, p.laid_out); le_bits_block = omega arith; bits_block_le_most_block = omega arith; n_in_bounds = omega (arith, p.laid_out); lowest_wrong = p.lowest_wrong }
+    record {
+      le_n = omega (arith, p.laid_out);
+      n_bound = omega (arith, p.laid_out);
+      le_bits_block = omega arith;
+      bits_block_le_most_block = omega arith;
+      n_in_bounds = omega (arith, p.laid_out);
+      lowest_wrong = p.lowest_wrong;
+    }
 
 pub returns-then-in_r1-ne0 : goal.returns-then-in_r1-ne0
 returns-then-in_r1-ne0 c =
@@ -41,7 +48,14 @@ returns-then-in_r1-ne0 c =
 pub wrong_in_string-in_r0-requires : goal.wrong_in_string-in_r0-requires
 wrong_in_string-in_r0-requires c =
     let p = c.requires in
-    record { le_n = omega (arith, p.laid_out); n_bound = omega (arith, p.laid_out); le_bits_block = omega (arith, p.laid_out); bits_block_le_most_block = omega (arith, p.laid_out); n_in_bounds = omega (arith, p.laid_out); lowest_wrong = p.lowest_wrong_2 }
+    record {
+      le_n = omega (arith, p.laid_out);
+      n_bound = omega (arith, p.laid_out);
+      le_bits_block = omega (arith, p.laid_out);
+      bits_block_le_most_block = omega (arith, p.laid_out);
+      n_in_bounds = omega (arith, p.laid_out);
+      lowest_wrong = p.lowest_wrong_2;
+    }
 
 pub returns-then-in_r0-ne0 : goal.returns-then-in_r0-ne0
 returns-then-in_r0-ne0 c =

@@ -52,7 +52,8 @@ pub returns-then-rest_zero : goal.returns-then-rest_zero
 returns-then-rest_zero c =
     let a = c.args in
     none_wrong a.b.now a.bits_block a.n c.requires.le_n 0 (counted (goal.at.returns-then-rest_zero c).Else-miscounted-ne0)
-    (subst (λ t. Decides t (Unused a.b.now (512 * (a.bits_block + (a.n - 1) / 4000) + 4) (a.n - 4000 * ((a.n - 1) / 4000)))) c.if-rest_zero.true (rest (goal.at.returns-then-rest_zero c).After-rest_zero)) (omega arith)
+    (subst (λ t. Decides t (Unused a.b.now (512 * (a.bits_block + (a.n - 1) / 4000) + 4) (a.n - 4000 * ((a.n - 1) / 4000)))) c.if-rest_zero.true
+    (rest (goal.at.returns-then-rest_zero c).After-rest_zero)) (omega arith)
 
 pub overflow_add-result : goal.overflow_add-result
 overflow_add-result c = omega (arith, c.last_block-last.ensures)

@@ -31,12 +31,22 @@ wrong_counts-block-requires c =
     let found = given (goal.at.wrong_counts-block-requires c).In-Given in
     let g = read c.args.b.now c.args.layout (are (goal.at.wrong_counts-block-requires c).After-shared_slice_known-1) c.requires.layout_value c.requires.header found.0 in
     let runs = ap (λ (x : Layout). x.runs) c.requires.layout_value in
-    record { laid_out = c.requires.laid_out; layout_value = c.requires.layout_value; le_runs = omega (arith, c.requires.header.runs_some); runs_bound = omega (arith, c.requires.header.runs_most, c.requires.header.most); ended = g.ended1; ended_2 = g.ended0; lowest_wrong = found.1; lowest_wrong_2 = found.2 }
+    record {
+      laid_out = c.requires.laid_out;
+      layout_value = c.requires.layout_value;
+      le_runs = omega (arith, c.requires.header.runs_some);
+      runs_bound = omega (arith, c.requires.header.runs_most, c.requires.header.most);
+      ended = g.ended1;
+      ended_2 = g.ended0;
+      lowest_wrong = found.1;
+      lowest_wrong_2 = found.2;
+    }
 
 pub returns-then-block-ne0 : goal.returns-then-block-ne0
 returns-then-block-ne0 c =
     let w = c.wrong_counts-block in
-    fault_counts_lem c.args.b.now c.args.layout (are (goal.at.returns-then-block-ne0 c).After-shared_slice_known-1) c.requires.layout_value c.requires.header (given (goal.at.returns-then-block-ne0 c).In-Given).0 w.result w.ensures c.if-block-ne0.true
+    fault_counts_lem c.args.b.now c.args.layout (are (goal.at.returns-then-block-ne0 c).After-shared_slice_known-1) c.requires.layout_value c.requires.header
+    (given (goal.at.returns-then-block-ne0 c).In-Given).0 w.result w.ensures c.if-block-ne0.true
 
 pub wrong_samples-requires : goal.wrong_samples-requires
 wrong_samples-requires c =
@@ -48,5 +58,6 @@ wrong_samples-requires c =
 pub returns : goal.returns
 returns c =
     let w = c.wrong_counts-block in
-    fault_samples_lem c.args.b.now c.args.layout (are (goal.at.returns c).After-shared_slice_known-1) c.requires.layout_value c.requires.header (given (goal.at.returns c).In-Given).0 (sym w.ensures ∙ c.if-block-ne0.false)
+    fault_samples_lem c.args.b.now c.args.layout (are (goal.at.returns c).After-shared_slice_known-1) c.requires.layout_value c.requires.header (given (goal.at.returns c).In-Given).0
+    (sym w.ensures ∙ c.if-block-ne0.false)
     c.wrong_samples.result c.wrong_samples.ensures

@@ -49,7 +49,15 @@ blocks_right-j-requires c =
     let none : word_at a.b.now (512 * a.bits_block) ≡ 0 =
     ap (word_at a.b.now) (let e : 512 * a.bits_block ≡ 512 * (a.bits_block + 0) = omega arith in e)
     ∙ kept-counts a.b.now a.bits_block a.n p.le_n p.counts_and_padding 0 (omega arith) ∙ sym (no_string a.b.now a.bits_block) in
-    record { le_n = p.le_n; n_bound = p.n_bound; bits_block_le_most_block = p.bits_block_le_most_block; samples_le_most_block = p.samples_le_most_block; n_in_bounds = p.n_in_bounds; m_in_bounds = p.m_in_bounds; bits_block_value = none }
+    record {
+      le_n = p.le_n;
+      n_bound = p.n_bound;
+      bits_block_le_most_block = p.bits_block_le_most_block;
+      samples_le_most_block = p.samples_le_most_block;
+      n_in_bounds = p.n_in_bounds;
+      m_in_bounds = p.m_in_bounds;
+      bits_block_value = none;
+    }
 
 pub overflow_mul-i : goal.overflow_mul-i
 overflow_mul-i c = omega (arith, c.blocks_right-j.ensures.inside)
@@ -91,7 +99,17 @@ overflow_add-s-in-loop-s c = omega arith
 pub select_after-place-requires : goal.select_after-place-requires
 select_after-place-requires c =
     let p = c.requires in
-    let inv = c.loop-s.invariant in record { i_lt_n = inv.1; passed_value = inv.2; passed_lt_k = omega (arith, inv.3); k_bound = omega (arith, p.m_value); n_bound = omega arith; bits_block_le_most_block = omega arith; b_len_bound = omega arith; n_in_bounds = omega arith; counts_and_padding = p.counts_and_padding }
+    let inv = c.loop-s.invariant in record {
+      i_lt_n = inv.1;
+      passed_value = inv.2;
+      passed_lt_k = omega (arith, inv.3);
+      k_bound = omega (arith, p.m_value);
+      n_bound = omega arith;
+      bits_block_le_most_block = omega arith;
+      b_len_bound = omega arith;
+      n_in_bounds = omega arith;
+      counts_and_padding = p.counts_and_padding;
+    }
 
 pub sample_at-requires : goal.sample_at-requires
 sample_at-requires c = omega (arith, c.loop-s.invariant.0)

@@ -98,12 +98,21 @@ overflow_add-end0-2 c =
 pub returns-then-end0-m : goal.returns-then-end0-m
 returns-then-end0-m c =
     let a = c.args in
-    λ g. c.if-end0-m.true (ap (λ k. k + 1) (all0 (goal.at.returns-then-end0-m c).After-ones_from-2 ∙ ap (ones_to a.b.now a.r0_block) (whole (goal.at.returns-then-end0-m c).After-last_block-last)) ∙ g.ones0)
+    λ g. c.if-end0-m.true
+    (ap (λ k. k + 1) (all0 (goal.at.returns-then-end0-m c).After-ones_from-2 ∙ ap (ones_to a.b.now a.r0_block) (whole (goal.at.returns-then-end0-m c).After-last_block-last)) ∙ g.ones0)
 
 pub block_step-requires : goal.block_step-requires
 block_step-requires c =
     let last = c.last_block-last.ensures in
-    record { n_bound = omega arith; b_len_bound = omega arith; j_in_bounds = omega arith; j_in_bounds_2 = omega arith; ones1_value = before1 (goal.at.block_step-requires c).After-last_block-last; ones0_value = before0 (goal.at.block_step-requires c).After-last_block-last; end1_value = all1 (goal.at.block_step-requires c).After-ones_from }
+    record {
+      n_bound = omega arith;
+      b_len_bound = omega arith;
+      j_in_bounds = omega arith;
+      j_in_bounds_2 = omega arith;
+      ones1_value = before1 (goal.at.block_step-requires c).After-last_block-last;
+      ones0_value = before0 (goal.at.block_step-requires c).After-last_block-last;
+      end1_value = all1 (goal.at.block_step-requires c).After-ones_from;
+    }
 
 pub returns : goal.returns
 returns c =

@@ -100,7 +100,15 @@ pub block_step-requires : goal.block_step-requires
 block_step-requires c =
     let last = c.last_block-last.ensures in
     let p = c.requires in
-    record { n_bound = omega arith; b_len_bound = omega arith; j_in_bounds = omega arith; j_in_bounds_2 = omega arith; ones1_value = c.loop-j.invariant.1; ones0_value = c.loop-j.invariant.2; end1_value = more1 (goal.at.block_step-requires c).After-ones_from }
+    record {
+      n_bound = omega arith;
+      b_len_bound = omega arith;
+      j_in_bounds = omega arith;
+      j_in_bounds_2 = omega arith;
+      ones1_value = c.loop-j.invariant.1;
+      ones0_value = c.loop-j.invariant.2;
+      end1_value = more1 (goal.at.block_step-requires c).After-ones_from;
+    }
 
 pub returns-then-not-block_step : goal.returns-then-not-block_step
 returns-then-not-block_step c =
@@ -218,7 +226,14 @@ lowest_in_r0-requires c =
     let a = c.args in
     let p = c.requires in
     let found = subst (λ k. LowestWrong (CountKept a.b.now a.r0_block) a.r0_block k c.loop-j.wrong0) (all_passed (goal.at.lowest_in_r0-requires c).After-loop-j) c.loop-j.invariant.5 in
-    record { n_bound = omega arith; le_r0_block = omega arith; b_len_bound = omega arith; n_in_bounds = omega arith; lowest_wrong = found; ones_value = omega (arith, (last_told (goal.at.lowest_in_r0-requires c).Else-not-last_blocks).ones0) }
+    record {
+      n_bound = omega arith;
+      le_r0_block = omega arith;
+      b_len_bound = omega arith;
+      n_in_bounds = omega arith;
+      lowest_wrong = found;
+      ones_value = omega (arith, (last_told (goal.at.lowest_in_r0-requires c).Else-not-last_blocks).ones0);
+    }
 
 pub returns : goal.returns
 returns c =

@@ -107,4 +107,8 @@ pub returns : goal.returns
 returns c =
     let l = c.loop-a in
     let a = c.args in
-    let b = a.b.now in record { value = sym (levels-end (λ k. ones_before_in b (suc k)) (64 - l.depth) l.a l.z l.nodes c.loop-a-test.false) ∙ l.invariant.0; cursors_len_2 = l.invariant.5; where_fits = found_all (below b) l.cursors l.depth l.a l.z (a.x - 1) a.x c.loop-a-test.false l.invariant.6 }
+    let b = a.b.now in record {
+      value = sym (levels-end (λ k. ones_before_in b (suc k)) (64 - l.depth) l.a l.z l.nodes c.loop-a-test.false) ∙ l.invariant.0;
+      cursors_len_2 = l.invariant.5;
+      where_fits = found_all (below b) l.cursors l.depth l.a l.z (a.x - 1) a.x c.loop-a-test.false l.invariant.6;
+    }

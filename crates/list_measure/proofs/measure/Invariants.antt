@@ -9,7 +9,8 @@ use Rattle.list_measure.proofs.measure.Given as goal
 
 abbrev pub invariant-loop-a : goal.invariant-loop-a
 invariant-loop-a l =
-    (levels_from (λ k. ones_before_in l.b (suc k)) (64 - l.depth) l.a l.z l.nodes ≡ size_of (listing 65 (parents_in l.b) l.x 0)) × (l.a ≤ l.image.nodes) × (l.z ≤ l.image.nodes) × (l.nodes ≤ 65535 * l.depth)
+    (levels_from (λ k. ones_before_in l.b (suc k)) (64 - l.depth) l.a l.z l.nodes ≡ size_of (listing 65 (parents_in l.b) l.x 0)) × (l.a ≤ l.image.nodes) × (l.z ≤ l.image.nodes) ×
+    (l.nodes ≤ 65535 * l.depth)
     × (l.depth ≤ 64) × (length l.cursors ≡ 64) × Found (below l.b) l.cursors l.depth l.a l.z (l.x - 1) l.x
 
 abbrev pub decreases-loop-a : goal.decreases-loop-a

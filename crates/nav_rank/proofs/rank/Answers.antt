@@ -21,7 +21,14 @@ returns-then-p-lt2000 c =
 
 pub ones_to_end-requires : goal.ones_to_end-requires
 ones_to_end-requires c =
-    record { n_bound = c.requires.n_bound; m_value = c.requires.m_value; bits_block_le_most_block = c.requires.bits_block_le_most_block; n_in_bounds = c.requires.n_in_bounds; counts_and_padding = c.requires.counts_and_padding; j_bound = omega arith }
+    record {
+      n_bound = c.requires.n_bound;
+      m_value = c.requires.m_value;
+      bits_block_le_most_block = c.requires.bits_block_le_most_block;
+      n_in_bounds = c.requires.n_in_bounds;
+      counts_and_padding = c.requires.counts_and_padding;
+      j_bound = omega arith;
+    }
 
 pub from_end-requires : goal.from_end-requires
 from_end-requires c = omega arith

@@ -21,4 +21,14 @@ overflow_sub-i c = omega (arith, (started (goal.at.overflow_sub-i c).After-word)
 
 pub select_after-requires : goal.select_after-requires
 select_after-requires c =
-    let r = started (goal.at.select_after-requires c).After-word in record { i_lt_n = omega arith; passed_value = sym r.2; passed_lt_k = omega arith; k_bound = omega arith; n_bound = omega arith; bits_block_le_most_block = omega arith; b_len_bound = omega arith; n_in_bounds = omega arith; counts_and_padding = c.requires.counts_and_padding }
+    let r = started (goal.at.select_after-requires c).After-word in record {
+      i_lt_n = omega arith;
+      passed_value = sym r.2;
+      passed_lt_k = omega arith;
+      k_bound = omega arith;
+      n_bound = omega arith;
+      bits_block_le_most_block = omega arith;
+      b_len_bound = omega arith;
+      n_in_bounds = omega arith;
+      counts_and_padding = c.requires.counts_and_padding;
+    }

@@ -12,7 +12,11 @@ pub string_bit-requires : goal.string_bit-requires
 string_bit-requires c =
     let b = c.args.b.now in
     let r = ready0 b (layout_in b) c.requires.node.sound in
-    record { i_bound = omega (arith, c.requires.node.some, c.requires.node.most, r.most); bits_block_le_most_block = omega (arith, r.near); i_in_bounds = omega (arith, c.requires.node.some, c.requires.node.most, r.room) }
+    record {
+      i_bound = omega (arith, c.requires.node.some, c.requires.node.most, r.most);
+      bits_block_le_most_block = omega (arith, r.near);
+      i_in_bounds = omega (arith, c.requires.node.some, c.requires.node.most, r.room);
+    }
 
 pub returns : goal.returns
 returns c =

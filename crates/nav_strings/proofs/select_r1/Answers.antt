@@ -15,7 +15,19 @@ overflow_cast-image-3 c = omega arith
 pub select-requires : goal.select-requires
 select-requires c =
     let r = ready1 c.args.b.now c.args.image c.requires.b_value in
-    record { le_k = c.requires.le_k; k_le_m = c.requires.k_le_runs; n_bound = r.most; m_value = r.count; bits_block_le_most_block = r.near; samples_le_most_block = r.nearer; b_len_bound = r.size; n_in_bounds = r.room; m_in_bounds = r.roomier; counts_and_padding = r.kept; sampled = r.sampled }
+    record {
+      le_k = c.requires.le_k;
+      k_le_m = c.requires.k_le_runs;
+      n_bound = r.most;
+      m_value = r.count;
+      bits_block_le_most_block = r.near;
+      samples_le_most_block = r.nearer;
+      b_len_bound = r.size;
+      n_in_bounds = r.room;
+      m_in_bounds = r.roomier;
+      counts_and_padding = r.kept;
+      sampled = r.sampled;
+    }
 
 pub returns : goal.returns
 returns c =

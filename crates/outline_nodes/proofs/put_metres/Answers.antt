@@ -21,7 +21,8 @@ pieces : (c : goal.After-metres_of)
     → let a = c.args in ascii " " ++ decimal c.metres_of.result ≡ metres_field (metres_in a.b.now) a.x
 pieces c =
     let a = c.args in
-    ap (λ m. ascii " " ++ decimal m) c.metres_of.ensures ∙ metres_pieces (metres_in a.b.now) a.x (sym (c.has_metres.ensures ∙ presence c.args.b.now c.args.image c.requires.node.sound) ∙ c.if-has_metres.true)
+    ap (λ m. ascii " " ++ decimal m) c.metres_of.ensures ∙ metres_pieces (metres_in a.b.now) a.x
+    (sym (c.has_metres.ensures ∙ presence c.args.b.now c.args.image c.requires.node.sound) ∙ c.if-has_metres.true)
 
 pub put_field-requires : goal.put_field-requires
 put_field-requires c = omega (arith, ap length (pieces (goal.at.put_field-requires c).After-metres_of))

@@ -38,7 +38,10 @@ put_node-at-requires c =
     let a = c.args in
     let b = a.b.now in
     let l = c.loop-i in
-    let p = pair (goal.at.put_node-at-requires c).In-loop-i in record { node = record { sound = c.requires.b_value; some = p.some; most = p.most }; pos_in_bounds = line-room (parents_in b) (metres_in b) a.pairs.now a.image.nodes a.from a.text.now l.at l.i l.text l.invariant (omega arith) c.requires.pairs_in_bounds }
+    let p = pair (goal.at.put_node-at-requires c).In-loop-i in record {
+      node = record { sound = c.requires.b_value; some = p.some; most = p.most };
+      pos_in_bounds = line-room (parents_in b) (metres_in b) a.pairs.now a.image.nodes a.from a.text.now l.at l.i l.text l.invariant (omega arith) c.requires.pairs_in_bounds;
+    }
 
 pub overflow_add-i-in-loop-i : goal.overflow_add-i-in-loop-i
 overflow_add-i-in-loop-i c = omega arith

@@ -84,7 +84,9 @@ put_heading-requires c = omega (arith, short (goal.at.put_heading-requires c).In
 pub returns-then-nodes-gt-MOST_LISTED : goal.returns-then-nodes-gt-MOST_LISTED
 returns-then-nodes-gt-MOST_LISTED c =
     let b = c.args.b.now in
-    let r = put_outline b _ (outline_many b (fits (goal.at.returns-then-nodes-gt-MOST_LISTED c).Else-b-gt-MOST_BYTES) c.in-Sound.image (sound (goal.at.returns-then-nodes-gt-MOST_LISTED c).In-Sound) (omega arith)) c.put_heading.ensures (omega (arith, short (goal.at.returns-then-nodes-gt-MOST_LISTED c).In-Sound)) in
+    let r = put_outline b _
+    (outline_many b (fits (goal.at.returns-then-nodes-gt-MOST_LISTED c).Else-b-gt-MOST_BYTES) c.in-Sound.image (sound (goal.at.returns-then-nodes-gt-MOST_LISTED c).In-Sound)
+    (omega arith)) c.put_heading.ensures (omega (arith, short (goal.at.returns-then-nodes-gt-MOST_LISTED c).In-Sound)) in
     record { text_after = r.0; value = r.1 }
 
 pub put_refusal-requires-then-listed-ne0 : goal.put_refusal-requires-then-listed-ne0
@@ -106,10 +108,27 @@ slice_bounds-put_nodes-end-2 c = sym ((listed (goal.at.slice_bounds-put_nodes-en
 pub put_nodes-requires : goal.put_nodes-requires
 put_nodes-requires c =
     let h = c.put_heading-from.ensures in
-    record { b_value = sound (goal.at.put_nodes-requires c).In-Sound; pairs = ((listed (goal.at.put_nodes-requires c).After-list-listed).whole c.if-listed-ne0.false).nodes; pairs_in_bounds = omega (arith, h.place, put_length h, short (goal.at.put_nodes-requires c).In-Sound, room (goal.at.put_nodes-requires c).Else-listed-ne0 ((listed (goal.at.put_nodes-requires c).After-list-listed).whole c.if-listed-ne0.false), c.requires.in_bounds_2) }
+    record {
+      b_value = sound (goal.at.put_nodes-requires c).In-Sound;
+      pairs = ((listed (goal.at.put_nodes-requires c).After-list-listed).whole c.if-listed-ne0.false).nodes;
+      pairs_in_bounds = omega (
+        arith,
+        h.place,
+        put_length h,
+        short (goal.at.put_nodes-requires c).In-Sound,
+        room (goal.at.put_nodes-requires c).Else-listed-ne0
+            ((listed (goal.at.put_nodes-requires c).After-list-listed).whole c.if-listed-ne0.false),
+        c.requires.in_bounds_2,
+      );
+    }
 
 pub returns : goal.returns
 returns c =
     let r = put_outline c.args.b.now _ ((listed (goal.at.returns c).After-list-listed).lines c.if-listed-ne0.false) (both_put c.put_heading-from.ensures c.put_nodes.ensures)
-    (simp length-append (omega (arith, short (goal.at.returns c).In-Sound, room (goal.at.returns c).Else-listed-ne0 ((listed (goal.at.returns c).After-list-listed).whole c.if-listed-ne0.false), c.requires.in_bounds_2))) in
+    (simp length-append (omega (
+      arith,
+      short (goal.at.returns c).In-Sound,
+      room (goal.at.returns c).Else-listed-ne0 ((listed (goal.at.returns c).After-list-listed).whole c.if-listed-ne0.false),
+      c.requires.in_bounds_2,
+    ))) in
     record { text_after = r.0; value = r.1 }

@@ -69,4 +69,8 @@ pub shape_of-counts : goal.shape_of-counts
 shape_of-counts c = (noted_lengths _ _ _ _ _ _ _ _ c.loop-at.invariant).1
 
 pub returns : goal.returns
-returns c = record { result_value = scanned_last _ _ _ _ c.loop-at.invariant.scanned c.loop-at-test.false; firsts_after = (noted_last _ _ _ _ _ _ _ _ c.loop-at.invariant c.loop-at-test.false).0; counts_after = (noted_last _ _ _ _ _ _ _ _ c.loop-at.invariant c.loop-at-test.false).1 }
+returns c = record {
+  result_value = scanned_last _ _ _ _ c.loop-at.invariant.scanned c.loop-at-test.false;
+  firsts_after = (noted_last _ _ _ _ _ _ _ _ c.loop-at.invariant c.loop-at-test.false).0;
+  counts_after = (noted_last _ _ _ _ _ _ _ _ c.loop-at.invariant c.loop-at-test.false).1;
+}

@@ -39,13 +39,21 @@ layout_of-layout-requires c =
 pub returns-then-image-layout : goal.returns-then-image-layout
 returns-then-image-layout c =
     let blocks = ap (λ (i : Layout). i.blocks) (laid (goal.at.returns-then-image-layout c).After-layout_of-layout) in
-    answered c.refuse-then-image-layout.ensures (seal_room c.args.metres.now c.args.parents.now c.args.image.now c.requires (passed (goal.at.returns-then-image-layout c).In-Passed) (omega (arith, blocks, c.if-image-layout.true)))
+    answered c.refuse-then-image-layout.ensures
+    (seal_room c.args.metres.now c.args.parents.now c.args.image.now c.requires (passed (goal.at.returns-then-image-layout c).In-Passed) (omega (arith, blocks, c.if-image-layout.true)))
 
 pub write_image-requires : goal.write_image-requires
 write_image-requires c =
     let w = writable _ (passed (goal.at.write_image-requires c).In-Passed) in
     let blocks = ap (λ (i : Layout). i.blocks) (laid (goal.at.write_image-requires c).After-layout_of-layout) in
-    record { in_bounds = w.some; ps_len_bound = w.most; ps_value = w.good; metres_len = c.requires; layout_value = laid (goal.at.write_image-requires c).After-layout_of-layout; ps_in_bounds = omega (arith, blocks, c.if-image-layout.false) }
+    record {
+      in_bounds = w.some;
+      ps_len_bound = w.most;
+      ps_value = w.good;
+      metres_len = c.requires;
+      layout_value = laid (goal.at.write_image-requires c).After-layout_of-layout;
+      ps_in_bounds = omega (arith, blocks, c.if-image-layout.false);
+    }
 
 pub returns-in-Refused : goal.returns-in-Refused
 returns-in-Refused c =
@@ -55,5 +63,6 @@ returns-in-Refused c =
 pub returns-else-image-layout : goal.returns-else-image-layout
 returns-else-image-layout c =
     let blocks = ap (λ (i : Layout). i.blocks) (laid (goal.at.returns-else-image-layout c).After-layout_of-layout) in
-    seal_made c.args.metres.now c.args.parents.now c.args.image.now c.requires (passed (goal.at.returns-else-image-layout c).In-Passed) (laid (goal.at.returns-else-image-layout c).After-layout_of-layout) (omega (arith, blocks, c.if-image-layout.false))
+    seal_made c.args.metres.now c.args.parents.now c.args.image.now c.requires (passed (goal.at.returns-else-image-layout c).In-Passed)
+    (laid (goal.at.returns-else-image-layout c).After-layout_of-layout) (omega (arith, blocks, c.if-image-layout.false))
     c.done.ensures c.write_image.ensures

@@ -37,7 +37,11 @@ spread_byte-from-requires c =
     let all = bits_from b (8 * a.at) a.n in
     let new = bits_from (get_or b (a.at + w) 0 ∷ []) 0 8 in
     let l = bits-length b (8 * a.at) a.n in
-    let e = byte_piece b a.at a.n w 8 (omega arith) (omega arith) in record { n_bound = omega arith; n_bound_2 = up-behind all new a.i a.p a.out.now (8 * w) 8 (8 * w + 8) refl e (omega arith) o.out o.from o.invariant.1; n_in_bounds = up_room all new a.i a.p a.out.now (8 * w) 8 (8 * w + 8) refl e (omega arith) o.out o.from o.invariant.1 }
+    let e = byte_piece b a.at a.n w 8 (omega arith) (omega arith) in record {
+      n_bound = omega arith;
+      n_bound_2 = up-behind all new a.i a.p a.out.now (8 * w) 8 (8 * w + 8) refl e (omega arith) o.out o.from o.invariant.1;
+      n_in_bounds = up_room all new a.i a.p a.out.now (8 * w) 8 (8 * w + 8) refl e (omega arith) o.out o.from o.invariant.1;
+    }
 
 pub overflow_add-w : goal.overflow_add-w
 overflow_add-w c = omega arith
@@ -82,7 +86,11 @@ spread_byte-requires c =
     let all = bits_from b (8 * a.at) a.n in
     let new = bits_from (get_or b (a.at + w) 0 ∷ []) 0 r in
     let l = bits-length b (8 * a.at) a.n in
-    let e = byte_piece b a.at a.n w r (omega arith) (omega arith) in record { n_bound = omega arith; n_bound_2 = up-behind all new a.i a.p a.out.now (8 * w) r a.n (omega arith) e (omega arith) o.out o.from o.invariant.1; n_in_bounds = up_room all new a.i a.p a.out.now (8 * w) r a.n (omega arith) e (omega arith) o.out o.from o.invariant.1 }
+    let e = byte_piece b a.at a.n w r (omega arith) (omega arith) in record {
+      n_bound = omega arith;
+      n_bound_2 = up-behind all new a.i a.p a.out.now (8 * w) r a.n (omega arith) e (omega arith) o.out o.from o.invariant.1;
+      n_in_bounds = up_room all new a.i a.p a.out.now (8 * w) r a.n (omega arith) e (omega arith) o.out o.from o.invariant.1;
+    }
 
 pub shape_of-out : goal.shape_of-out
 shape_of-out c = c.spread_byte.auto.out ∙ c.loop-w.invariant.1.size

@@ -36,7 +36,12 @@ spread_block-from-requires c =
     let new = bits_from b (8 * c.bits_at.result) 4000 in
     let l = length-string_in b 1 0 a.n in
     let e = block_piece b 1 a.n j 4000 c.bits_at.result c.bits_at.ensures (omega arith) (omega arith) in
-    let t = 4000 * (j + 1) in record { n_bound = omega arith; at_in_bounds = omega arith; n_bound_2 = omega (arith, up-behind all new 0 a.p a.out.now (4000 * j) 4000 t (omega arith) e (omega arith) o.out o.from o.invariant.1); n_in_bounds = up_room all new 0 a.p a.out.now (4000 * j) 4000 t (omega arith) e (omega arith) o.out o.from o.invariant.1 }
+    let t = 4000 * (j + 1) in record {
+      n_bound = omega arith;
+      at_in_bounds = omega arith;
+      n_bound_2 = omega (arith, up-behind all new 0 a.p a.out.now (4000 * j) 4000 t (omega arith) e (omega arith) o.out o.from o.invariant.1);
+      n_in_bounds = up_room all new 0 a.p a.out.now (4000 * j) 4000 t (omega arith) e (omega arith) o.out o.from o.invariant.1;
+    }
 
 pub overflow_add-j-in-loop-j : goal.overflow_add-j-in-loop-j
 overflow_add-j-in-loop-j c = omega arith
@@ -79,7 +84,12 @@ spread_block-requires c =
     let all = string_in b 1 0 a.n in
     let new = bits_from b (8 * c.bits_at-2.result) r in
     let l = length-string_in b 1 0 a.n in
-    let e = block_piece b 1 a.n j r c.bits_at-2.result c.bits_at-2.ensures (omega arith) (omega arith) in record { n_bound = omega arith; at_in_bounds = omega arith; n_bound_2 = omega (arith, up-behind all new 0 a.p a.out.now (4000 * j) r a.n (omega arith) e (omega arith) o.out o.from o.invariant.1); n_in_bounds = up_room all new 0 a.p a.out.now (4000 * j) r a.n (omega arith) e (omega arith) o.out o.from o.invariant.1 }
+    let e = block_piece b 1 a.n j r c.bits_at-2.result c.bits_at-2.ensures (omega arith) (omega arith) in record {
+      n_bound = omega arith;
+      at_in_bounds = omega arith;
+      n_bound_2 = omega (arith, up-behind all new 0 a.p a.out.now (4000 * j) r a.n (omega arith) e (omega arith) o.out o.from o.invariant.1);
+      n_in_bounds = up_room all new 0 a.p a.out.now (4000 * j) r a.n (omega arith) e (omega arith) o.out o.from o.invariant.1;
+    }
 
 pub shape_of-out : goal.shape_of-out
 shape_of-out c = c.spread_block.auto.out ∙ c.loop-j.invariant.1.size
