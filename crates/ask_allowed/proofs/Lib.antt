@@ -1,3 +1,1 @@
-pub mod Signs
-pub mod Allowing
 pub mod Turns

@@ -1,94 +1,110 @@
-// Which questions are allowed; their signed numbers are taken apart here and nowhere else.
+// The kinds of questions, and which questions are allowed.
 #![tactic(auto)]
 
-ghost use Rattle.std.specs.Prelude.{◌≡◌, ◌+◌, ◌*◌, ◌≤◌, ◌<◌, pos, get_or, length};
-ghost use Rattle.meaning.specs.Questions.{allowed, allowed_kind, kind_of, not_allowed, number_of, questions};
-ghost use Rattle.ask_argument.specs.Values.{value_of};
+ghost use Rattle.std.specs.Prelude.{◌≡◌, ◌+◌, ◌*◌, ◌≤◌, length};
+ghost use Rattle.std.proofs.Math.Option.{some};
+ghost use Rattle.meaning.specs.Questions.{allowed, allowed_kind, not_allowed, number_of, questions};
+ghost use Rattle.theory.specs.Places.{place_of};
 ghost use Rattle.ask_allowed.specs.Asked.{question_at};
+ghost use Rattle.ask_allowed.specs.Kinds.{Decodes, asked_by};
 
-use ask_argument::Signed;
-
-// A number of a list, its sign and its size apart. The size of -2^31 is no signed number of 32
-// bits: hence the 64.
-pub fn signed_at(asked: &[i32], at: usize) -> Signed
-    requires { at < length asked.now }
-    ensures { value_of result ≡ get_or asked.now at (pos 0) }
-{
-    let x = asked[at];
-    if x < 0 {
-        let wide = x as i64;
-        let size = (0 - wide) as u32;
-        return Signed { below: true, size };
-    }
-    let size = x as u32;
-    Signed { below: false, size }
+// What a question asks, kinds 1 to 11 in order.
+#[derive(Clone, Copy, Debug, PartialEq, Eq)]
+pub enum Kind {
+    Parent,
+    FirstChild,
+    LastChild,
+    NextSibling,
+    PreviousSibling,
+    Degree,
+    Rank,
+    Child,
+    Leaf,
+    Sibling,
+    Metres,
 }
 
-// A kind or a node: no number below 0 is one, and nor is 0.
-pub fn number(z: Signed) -> u32
-    ensures { result ≡ number_of (value_of z) }
-{
-    if z.below {
-        return 0;
-    }
-    z.size
-}
+// A number that is no kind.
+#[derive(Clone, Copy, Debug, PartialEq, Eq)]
+pub struct NoKind(pub i32);
 
-// Kinds 8 and 10 take any argument, the others 0; kind 11 is asked only where there are metres.
-fn argument_allowed(kind: u32, z: Signed, metres: bool) -> bool
-    ensures { result ≡ allowed_kind metres (kind_of (pos kind)) (value_of z) }
-{
-    if kind < 1 {
-        return false;
-    }
-    if 11 < kind {
-        return false;
-    }
-    if kind == 11 {
-        if !metres {
-            return false;
+impl TryFrom<i32> for Kind {
+    type Error = NoKind;
+
+    ghost try_from_gives = { Decodes };
+
+    fn try_from(number: i32) -> Result<Self, NoKind> {
+        match number {
+            1 => Ok(Kind::Parent),
+            2 => Ok(Kind::FirstChild),
+            3 => Ok(Kind::LastChild),
+            4 => Ok(Kind::NextSibling),
+            5 => Ok(Kind::PreviousSibling),
+            6 => Ok(Kind::Degree),
+            7 => Ok(Kind::Rank),
+            8 => Ok(Kind::Child),
+            9 => Ok(Kind::Leaf),
+            10 => Ok(Kind::Sibling),
+            11 => Ok(Kind::Metres),
+            _ => Err(NoKind(number)),
         }
     }
-    if kind == 8 {
-        return true;
+}
+
+// A node: no number below 0 is one, and nor is 0.
+pub fn number(x: i32) -> u32
+    ensures { result ≡ number_of x }
+{
+    u32::try_from(x).unwrap_or(0)
+}
+
+// A child's and a sibling's place is any number, and the other kinds take 0; metres are asked for
+// only where there are some.
+fn argument_allowed(kind: Kind, z: i32, metres: bool) -> bool
+    ensures { result ≡ allowed_kind metres (some (asked_by kind)) z }
+{
+    match kind {
+        Kind::Child | Kind::Sibling => true,
+        Kind::Metres => metres && z == 0,
+        Kind::Parent
+        | Kind::FirstChild
+        | Kind::LastChild
+        | Kind::NextSibling
+        | Kind::PreviousSibling
+        | Kind::Degree
+        | Kind::Rank
+        | Kind::Leaf => z == 0,
     }
-    if kind == 10 {
-        return true;
-    }
-    z.size == 0
 }
 
 // Is question number i, from 0, allowed in a tree of n nodes, with metres or without?
+#[tactic(auto, unfolding(meaning::specs::Questions::allowed))]
 fn allowed_at(asked: &[i32], i: usize, n: u32, metres: bool) -> bool
     requires { 3 * i + 3 ≤ length asked.now }
     ensures { result ≡ allowed n metres (question_at asked.now i) }
 {
-    let node = number(signed_at(asked, 3 * i + 1));
+    let node = number(asked[3 * i + 1]);
     if node < 1 {
         return false;
     }
     if n < node {
         return false;
     }
-    argument_allowed(
-        number(signed_at(asked, 3 * i)),
-        signed_at(asked, 3 * i + 2),
-        metres,
-    )
+    let Ok(kind) = Kind::try_from(asked[3 * i]) else {
+        return false;
+    };
+    argument_allowed(kind, asked[3 * i + 2], metres)
 }
 
-// The lowest question, from 1, that is not allowed: 0 if there is none.
-pub fn lowest_not_allowed(asked: &[i32], n: u32, metres: bool) -> u32
+// The lowest question, from 1, that is not allowed.
+pub fn lowest_not_allowed(asked: &[i32], n: u32, metres: bool) -> Option<u32>
     requires { length asked.now ≤ 3 * 256 }
-    ensures { result ≡ not_allowed n metres (questions asked.now) 0 }
+    ensures { result ≡ place_of (not_allowed n metres (questions asked.now) 0) }
 {
-    let count = asked.len() / 3;
-    let mut i: usize = 0;
-    while i < count {
+    for i in 0..asked.len() / 3 {
         if !allowed_at(asked, i, n, metres) {
-            return (i + 1) as u32;
+            return Some((i + 1) as u32);
         }
-        i += 1;
     }
-    0
+    None
 }

@@ -1,26 +1,17 @@
--- The answer to a question, and what the loop that writes the answers keeps.
-use mathlib.Core.Path.{◌≡◌, refl, sym, ap, ap₂, ◌∙◌}
+-- What the loop that writes the answers keeps.
+use mathlib.Core.Path.{◌≡◌, sym, ap, ap₂, ◌∙◌}
 use mathlib.Core.Bool.{Bool, true}
 use mathlib.Core.List.{List, [], ◌∷◌, ◌++◌, map}
 use Prim.Native.Nat.{ℕ, suc, ◌+◌, ◌*◌, ◌≤◌, ◌<◌}
 use native.Mathlib.Numerals.{add-one}
 use native.Mathlib.Omega.{arith}
-use lib.IntN.{ℤ, pos}
+use lib.IntN.{ℤ}
 use lib.ListN.{length, take, drop, set, take-append-drop, length-set}
 use lib.Seq.{take-suc-set, drop-set-lt, drop-drop, append_snoc}
 use Rattle.meaning.specs.Answers.{written}
-use Rattle.meaning.specs.Questions.{Question, kind_of, number_of, questions, allowed, not_allowed, answer_kind, answer_to}
+use Rattle.meaning.specs.Questions.{questions, allowed, not_allowed, answer_to}
 use Rattle.ask_allowed.specs.Asked.{question_at}
-use Rattle.ask_allowed.proofs.Allowing.{kind_number}
 use Rattle.ask_allowed.proofs.Turns.{questions-end, questions-next, bad-next, all-allowed}
-
-pub answer_is : (ps ms : List ℕ) (q : Question) (k x : ℕ) (z : ℤ) → k ≡ number_of q.kind → x ≡ number_of q.node → z ≡ q.argument
-    → answer_kind ps ms (kind_of (pos k)) x z ≡ answer_to ps ms q
-unfolding answer_to
-answer_is ps ms q k x z e f g =
-    ap (λ j. answer_kind ps ms (kind_of (pos j)) x z) e
-    ∙ ap (λ a. answer_kind ps ms a x z) (kind_number q.kind)
-    ∙ ap₂ (λ y w. answer_kind ps ms (kind_of q.kind) y w) f g
 
 module _ (ps ms : List ℕ) (n : ℕ) (metres : Bool) (qs : List ℤ) where
   -- what is to be written, where the questions before number i have their answers
@@ -32,9 +23,6 @@ module _ (ps ms : List ℕ) (n : ℕ) (metres : Bool) (qs : List ℤ) where
     pub room : length out ≡ length old
     pub fine : not_allowed n metres (questions (drop (3 * i) qs)) i ≡ 0
     pub made : to_come out i ≡ written (map (answer_to ps ms) (questions qs)) old
-
-  pub answered-first : (old : List ℕ) → not_allowed n metres (questions qs) 0 ≡ 0 → Answered old old 0
-  answered-first old e = record { at = omega arith; room = refl; fine = e; made = refl }
 
   module _ (old out : List ℕ) (i : ℕ) (h : Answered old out i) where
     pub answered-last : length qs < 3 * i + 3 → out ≡ written (map (answer_to ps ms) (questions qs)) old

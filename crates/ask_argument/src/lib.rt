@@ -1,16 +1,9 @@
-// The sign and the size of a question's argument; a node's number moved by it, within bounds.
+// A node's number moved by a question's argument, within bounds.
 #![tactic(auto)]
 
 ghost use Rattle.std.specs.Prelude.{◌≡◌, ◌≤◌};
 ghost use Rattle.theory.specs.ByStrings.{within};
-ghost use Rattle.ask_argument.specs.Values.{value_of, moved};
-
-// The argument of a question: its size, or minus its size.
-#[derive(Clone, Copy)]
-pub struct Signed {
-    pub below: bool,
-    pub size: u32,
-}
+ghost use Rattle.ask_argument.specs.Values.{moved};
 
 // y, if it is above low and at most high, and else 0.
 pub fn in_range(low: usize, high: usize, y: usize) -> usize
@@ -26,17 +19,9 @@ pub fn in_range(low: usize, high: usize, y: usize) -> usize
 }
 
 // x + z, and 0 where that is below 0.
-pub fn shifted(x: usize, z: Signed) -> usize
+pub fn shifted(x: usize, z: i32) -> usize
     requires { x ≤ 65535 }
-    ensures { result ≡ moved x (value_of z) }
+    ensures { result ≡ moved x z }
 {
-    let below = z.below;
-    let size = z.size as usize;
-    if below {
-        if x <= size {
-            return 0;
-        }
-        return x - size;
-    }
-    x + size
+    x.saturating_add_signed(z as isize)
 }

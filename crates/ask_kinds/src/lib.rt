@@ -1,36 +1,36 @@
 // The eleven kinds of questions, answered from an image that the check found sound.
 #![tactic(auto)]
 
-ghost use Rattle.std.specs.Prelude.{◌≡◌, ◌≤◌, pos};
+ghost use Rattle.std.specs.Prelude.{◌≡◌};
+ghost use Rattle.std.proofs.Math.Option.{some};
 ghost use Rattle.meaning.specs.Image.{list_of, metres_in, parents_in};
-ghost use Rattle.meaning.specs.Questions.{answer_kind, kind_of};
-ghost use Rattle.ask_argument.specs.Values.{value_of};
+ghost use Rattle.meaning.specs.Questions.{answer_kind};
+ghost use Rattle.ask_allowed.specs.Kinds.{asked_by};
 ghost use Rattle.nav_strings.specs.Nodes.{IsNode};
 
-use ask_argument::Signed;
+use ask_allowed::Kind;
 use image_layout::Layout;
 use nav_children::{child_number, degree_of, first_child, is_leaf, last_child, parent_of};
 use nav_metres::metres_of;
 use nav_siblings::{child_rank, next_sibling, previous_sibling, sibling_at};
 
-// The answer to one question, kinds 1 to 11.
-pub fn answer_kind(b: &[u8], image: Layout, kind: u32, x: usize, z: Signed) -> u32
-    requires node { IsNode b.now image x }
-    requires le_kind { 1 ≤ kind }
-    requires kind_bound { kind ≤ 11 }
-    ensures { result ≡ answer_kind (parents_in b.now) (list_of (metres_in b.now)) (kind_of (pos kind)) x (value_of z) }
+// The answer to one question.
+#[tactic(auto, unfolding(meaning::specs::Questions::answer))]
+pub fn answer_kind(b: &[u8], image: Layout, kind: Kind, x: usize, z: i32) -> u32
+    requires { IsNode b.now image x }
+    ensures { result ≡ answer_kind (parents_in b.now) (list_of (metres_in b.now)) (some (asked_by kind)) x z }
 {
     match kind {
-        1 => parent_of(b, image, x),
-        2 => first_child(b, image, x),
-        3 => last_child(b, image, x),
-        4 => next_sibling(b, image, x),
-        5 => previous_sibling(b, image, x),
-        6 => degree_of(b, image, x),
-        7 => child_rank(b, image, x),
-        8 => child_number(b, image, x, z),
-        9 => is_leaf(b, image, x),
-        10 => sibling_at(b, image, x, z),
-        _ => metres_of(b, image, x),
+        Kind::Parent => parent_of(b, image, x),
+        Kind::FirstChild => first_child(b, image, x),
+        Kind::LastChild => last_child(b, image, x),
+        Kind::NextSibling => next_sibling(b, image, x),
+        Kind::PreviousSibling => previous_sibling(b, image, x),
+        Kind::Degree => degree_of(b, image, x),
+        Kind::Rank => child_rank(b, image, x),
+        Kind::Child => child_number(b, image, x, z),
+        Kind::Leaf => is_leaf(b, image, x),
+        Kind::Sibling => sibling_at(b, image, x, z),
+        Kind::Metres => metres_of(b, image, x),
     }
 }

@@ -1,12 +1,15 @@
 -- Bits appended byte by byte.
-use mathlib.Core.Path.{◌≡◌, refl, sym, ap, ap₂, ◌∙◌}
+use mathlib.Core.Path.{◌≡◌, refl, sym, ap, ap₂, ◌∙◌, subst}
 use mathlib.Core.List.{List, [], ◌∷◌, ◌++◌}
 use Prim.Native.Nat.{ℕ, zero, suc, ◌+◌, ◌-◌, ◌*◌, ◌/◌, ◌%◌, ◌^◌, ◌<◌, ◌≤◌}
 use native.Mathlib.Decide.{ℕ_discrete}
 use native.Mathlib.Omega.{arith}
 use lib.Bits.{bit_or}
 use lib.ListN.{length, get_or, set, take, drop, replicate, length-take, length-drop, length-set, take-append-drop, length-replicate, get_or-append, replicate-append-replicate}
-use lib.Seq.{get_or-take, get_or-append-add, take_all, length-take-le}
+use lib.Seq.{get_or-take, get_or-append-add, take_all, length-take-le, paste}
+use borrow.Rule.Slice.PartMut.{put_mid}
+use Rattle.std.proofs.lemmas.List.Edits.{fill_from_more, paste_none}
+use Rattle.std.proofs.lemmas.Slice.{put_mid-paste}
 use Rattle.meaning.specs.Strings.{Bit, O}
 use Rattle.meaning.specs.Bytes.{bit, bit_at, bits_from, bytes_for, number, value}
 use Rattle.theory.specs.Layout.{AreBytes}
@@ -131,31 +134,36 @@ zero_byte bytes j hb h =
     ∙ ap (λ q. appended bytes (8 * j) (take (8 - q) (replicate 8 O))) r
 
 -- whole bytes of zeros from byte s to before byte j
-abbrev pub cleared : List ℕ → ℕ → ℕ → List ℕ
+abbrev cleared : List ℕ → ℕ → ℕ → List ℕ
 cleared bytes s j = appended bytes (8 * s) (replicate (8 * (j - s)) O)
 
-pub clear_none : (bytes : List ℕ) (j : ℕ) → AreBytes bytes → j ≤ length bytes → bytes ≡ cleared bytes j j
+clear_none : (bytes : List ℕ) (j : ℕ) → AreBytes bytes → j ≤ length bytes → bytes ≡ cleared bytes j j
 clear_none bytes j hb h =
     appended-same bytes bytes (8 * j) [] hb hb (omega arith) refl (λ p g. refl) (λ p g k. absurd (omega arith)) (λ p g k. refl)
     ∙ ap (λ k. appended bytes (8 * j) (replicate k O)) (let e : 0 ≡ 8 * (j - j) = omega arith in e)
 
-pub clear_length : (bytes : List ℕ) (s j : ℕ) → s ≤ j → j ≤ length bytes → length (cleared bytes s j) ≡ length bytes
-clear_length bytes s j h g = let l = length-replicate (8 * (j - s)) O in appended-length bytes (8 * s) (replicate (8 * (j - s)) O) (omega arith)
-
-pub clear_more : (bytes : List ℕ) (s j : ℕ) → AreBytes bytes → s ≤ j → j < length bytes → set (cleared bytes s j) j 0 ≡ cleared bytes s (j + 1)
+clear_more : (bytes : List ℕ) (s j : ℕ) → AreBytes bytes → s ≤ j → j < length bytes → set (cleared bytes s j) j 0 ≡ cleared bytes s (j + 1)
 clear_more bytes s j hb h g =
     let n = 8 * (j - s) in
     let zs = replicate n O in
     let l : length zs ≡ n = length-replicate n O in
-    let m = clear_length bytes s j h (omega arith) in
+    let m = appended-length bytes (8 * s) zs (omega arith) in
     zero_byte (cleared bytes s j) j (appended_bytes bytes (8 * s) zs hb) (omega arith)
     ∙ ap (λ k. appended (cleared bytes s j) k (replicate 8 O)) (let e : 8 * j ≡ 8 * s + length zs = omega arith in e)
     ∙ appended_twice bytes (8 * s) zs (replicate 8 O)
     ∙ ap (appended bytes (8 * s)) (replicate-append-replicate n 8 O)
     ∙ ap (λ k. appended bytes (8 * s) (replicate k O)) (let e : n + 8 ≡ 8 * (j + 1 - s) = omega arith in e)
 
+clear_run : (bytes : List ℕ) (s k : ℕ) → AreBytes bytes → s + k ≤ length bytes → paste bytes s (replicate k 0) k ≡ cleared bytes s (s + k)
+clear_run bytes s zero hb h =
+    sym (paste_none bytes s (replicate 0 0)) ∙ clear_none bytes s hb (omega arith) ∙ ap (cleared bytes s) (let e : s ≡ s + 0 = omega arith in e)
+clear_run bytes s (suc k) hb h =
+    ap (λ n. paste bytes s (replicate n 0) n) (let e : suc k ≡ k + 1 = omega arith in e) ∙ sym (fill_from_more bytes s k 0 (omega arith))
+    ∙ ap (λ l. set l (s + k) 0) (clear_run bytes s k hb (omega arith)) ∙ clear_more bytes s (s + k) hb (omega arith) (omega arith)
+    ∙ ap (cleared bytes s) (let e : s + k + 1 ≡ s + suc k = omega arith in e)
+
 -- zeros to the end of a byte, then whole bytes
-pub clear_all : (bytes : List ℕ) (at n s end : ℕ) → AreBytes bytes → 1 ≤ n → at + n ≤ 8 * length bytes → s ≡ at / 8 + 1 → end ≡ bytes_for (at + n)
+clear_all : (bytes : List ℕ) (at n s end : ℕ) → AreBytes bytes → 1 ≤ n → at + n ≤ 8 * length bytes → s ≡ at / 8 + 1 → end ≡ bytes_for (at + n)
     → cleared (appended bytes at (take (8 - at % 8) (byte_bits 0))) s end ≡ appended bytes at (replicate n O)
 clear_all bytes at n s end hb h room es ee =
     let r = 8 - at % 8 in
@@ -168,3 +176,19 @@ clear_all bytes at n s end hb h room es ee =
     ∙ appended_twice bytes at zs (replicate m O)
     ∙ ap (appended bytes at) (replicate-append-replicate r m O)
     ∙ zeros_to_end bytes at (r + m) n hb (omega arith) room (omega arith)
+
+-- the buffer after both, of which code clears the whole bytes at once
+pub all_cleared : (bytes half zeros : List ℕ) (at n s end : ℕ) → AreBytes bytes → 1 ≤ n → at + n ≤ 8 * length bytes → s ≡ at / 8 + 1 → end ≡ bytes_for (at + n)
+    → half ≡ appended bytes at (take (8 - at % 8) (byte_bits 0)) → zeros ≡ replicate (end - s) 0
+    → put_mid s (end - s) half zeros ≡ appended bytes at (replicate n O)
+all_cleared bytes half zeros at n s end hb h room es ee half_is zeros_are =
+    let first = take (8 - at % 8) (byte_bits 0) in
+    let l = length-take (8 - at % 8) (byte_bits 0) in
+    let b : length (byte_bits 0) ≡ 8 = bits-length (0 ∷ []) 0 8 in
+    let m = appended-length bytes at first (omega arith) in
+    let hh : AreBytes half = subst AreBytes (sym half_is) (appended_bytes bytes at first hb) in
+    put_mid-paste s (end - s) half zeros (replicate (end - s) 0) (end - s) zeros_are refl (sym (length-replicate (end - s) 0))
+    ∙ clear_run half s (end - s) hh (omega (arith, ap length half_is))
+    ∙ ap (cleared half s) (let e : s + (end - s) ≡ end = omega arith in e)
+    ∙ ap (λ t. cleared t s end) half_is
+    ∙ clear_all bytes at n s end hb h room es ee

@@ -34,9 +34,5 @@ pub fn blank(buf: &mut [u8], at: usize, n: usize)
     // the byte after the last zero's; at + n need not fit a usize
     let end = at / 8 + (n - 1) / 8 + (at % 8 + (n - 1) % 8) / 8 + 1;
     append(buf, at, 0, 8 - at % 8);
-    let mut j = at / 8 + 1;
-    while j < end {
-        buf[j] = 0;
-        j += 1;
-    }
+    buf[at / 8 + 1..end].fill(0);
 }

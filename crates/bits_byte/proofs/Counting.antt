@@ -47,8 +47,10 @@ number-bits bs h =
         let zs = replicate (8 - length bs) O in
         elim (dec_lt i (length bs)) [
           | yes g ↦ sym (get_or-append bs zs O i g)
-          | no g ↦ get_or-eq_default bs O (omega arith)
-              ∙ sym (ap (λ k. get_or (bs ++ zs) k O) (let e : i ≡ length bs + (i - length bs) = omega arith in e) ∙ get_or-append-add bs zs (i - length bs) O ∙ zeros-at (8 - length bs) (i - length bs))
+          | no g ↦
+              let k = i - length bs in
+              let e : i ≡ length bs + k = omega arith in
+              get_or-eq_default bs O (omega arith) ∙ sym (ap (λ j. get_or (bs ++ zs) j O) e ∙ get_or-append-add bs zs k O ∙ zeros-at (8 - length bs) k)
         ]
 
 pub number-ones : (bs : List Bit) → length bs ≤ 8 → ones (byte_bits (number 8 bs)) ≡ ones bs

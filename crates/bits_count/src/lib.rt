@@ -18,14 +18,11 @@ pub fn ones_from(b: &[u8], at: usize, n: usize) -> u32
 {
     let whole = n / 8;
     let mut count: u32 = 0;
-    let mut i: usize = 0;
-    while i + 8 <= whole {
-        count += ones_in_word(b, at + i);
-        i += 8;
+    for i in 0..whole / 8 {
+        count += ones_in_word(b, at + 8 * i);
     }
-    while i < whole {
+    for i in whole / 8 * 8..whole {
         count += ones_in_byte(b[at + i]);
-        i += 1;
     }
     if n % 8 == 0 {
         return count;

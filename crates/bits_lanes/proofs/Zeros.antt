@@ -16,6 +16,10 @@ one-zero k n = go (n % 2)
 abbrev pub eight_on : ℕ → ℕ
 eight_on k = suc (suc (suc (suc (suc (suc (suc (suc k)))))))
 
+-- eight halvings
+halved : (k n : ℕ) → count_trailing_zeros k (n / 2 / 2 / 2 / 2 / 2 / 2 / 2 / 2) ≡ count_trailing_zeros k (n / 256)
+halved k n = ap (count_trailing_zeros k) (let e : n / 2 / 2 / 2 / 2 / 2 / 2 / 2 / 2 ≡ n / 256 = omega arith in e)
+
 -- a byte of zeros
 pub eight-zeros : (k n : ℕ) → 8 ≤ count_trailing_zeros (eight_on k) n → (n % 256 ≡ 0) × (count_trailing_zeros (eight_on k) n ≡ 8 + count_trailing_zeros k (n / 256))
 eight-zeros k n h =
@@ -27,8 +31,7 @@ eight-zeros k n h =
     let z6 = one-zero (suc (suc k)) (n / 2 / 2 / 2 / 2 / 2) (omega (arith, z1.1, z2.1, z3.1, z4.1, z5.1)) in
     let z7 = one-zero (suc k) (n / 2 / 2 / 2 / 2 / 2 / 2) (omega (arith, z1.1, z2.1, z3.1, z4.1, z5.1, z6.1)) in
     let z8 = one-zero k (n / 2 / 2 / 2 / 2 / 2 / 2 / 2) (omega (arith, z1.1, z2.1, z3.1, z4.1, z5.1, z6.1, z7.1)) in
-    let same : count_trailing_zeros k (n / 2 / 2 / 2 / 2 / 2 / 2 / 2 / 2) ≡ count_trailing_zeros k (n / 256) = ap (count_trailing_zeros k) (let e : n / 2 / 2 / 2 / 2 / 2 / 2 / 2 / 2 ≡ n / 256 = omega arith in e) in
-    (omega (arith, z1.0, z2.0, z3.0, z4.0, z5.0, z6.0, z7.0, z8.0), omega (arith, same, z1.1, z2.1, z3.1, z4.1, z5.1, z6.1, z7.1, z8.1))
+    (omega (arith, z1.0, z2.0, z3.0, z4.0, z5.0, z6.0, z7.0, z8.0), omega (arith, halved k n, z1.1, z2.1, z3.1, z4.1, z5.1, z6.1, z7.1, z8.1))
 
 one_more : (k n : ℕ) → n % 2 ≡ 0 → count_trailing_zeros (suc k) n ≡ suc (count_trailing_zeros k (n / 2))
 unfolding count_trailing_zeros
@@ -45,8 +48,7 @@ eight_more k n h =
     let z6 = one_more (suc (suc k)) (n / 2 / 2 / 2 / 2 / 2) (omega arith) in
     let z7 = one_more (suc k) (n / 2 / 2 / 2 / 2 / 2 / 2) (omega arith) in
     let z8 = one_more k (n / 2 / 2 / 2 / 2 / 2 / 2 / 2) (omega arith) in
-    let same : count_trailing_zeros k (n / 2 / 2 / 2 / 2 / 2 / 2 / 2 / 2) ≡ count_trailing_zeros k (n / 256) = ap (count_trailing_zeros k) (let e : n / 2 / 2 / 2 / 2 / 2 / 2 / 2 / 2 ≡ n / 256 = omega arith in e) in
-    omega (arith, same, z1, z2, z3, z4, z5, z6, z7, z8)
+    omega (arith, halved k n, z1, z2, z3, z4, z5, z6, z7, z8)
 
 -- there are fewer than digits, if one is set
 pub zeros-lt : (k n : ℕ) → 0 < n → n < 2 ^ k → count_trailing_zeros k n < k

@@ -30,7 +30,7 @@ pub fn count_lanes(word: u64) -> Ones
     let two = one + (one << 8);
     let four = two + (two << 16);
     Ones {
-        here: here,
+        here,
         earlier: four + (four << 32),
     }
 }

@@ -8,7 +8,7 @@ use native.Mathlib.Decide.{dec_le}
 use lib.Bits.{bit_and}
 use lib.Count.{count_leading_zeros, count_trailing_zeros}
 use Rattle.meaning.specs.Bytes.{bit_at, bits_from, number, value}
-use Rattle.bits_nearest.specs.Found.{Clear, LastOne, FirstOne}
+use Rattle.bits_nearest.specs.Found.{Clear, IsLast, IsFirst}
 use Rattle.bits_nearest.proofs.Words.{last_none, last_in, last_one, last-zeros, first-none, first_in, first-from, first_one, first-zeros}
 
 -- two stretches without a one that meet
@@ -18,14 +18,15 @@ joined bytes q a m z f g k h l = elim (dec_le m k) [
   | no n ↦ f k h (omega arith)
 ]
 
-pub later-found : (bytes : List ℕ) (q n m r : ℕ) → m ≤ n → Clear bytes q m n → LastOne bytes q m r → LastOne bytes q n r
+pub later-found : (bytes : List ℕ) (q n m r : ℕ) → m ≤ n → Clear bytes q m n → IsLast bytes q m r → IsLast bytes q n r
 later-found bytes q n m r l passed one = record {
+  some = one.some;
   within = omega (arith, one.within);
   found = one.found;
   clear = joined bytes q r m n one.clear passed;
 }
 
-pub earlier_found : (bytes : List ℕ) (q n m r : ℕ) → n ≤ m → Clear bytes q n m → FirstOne bytes q m r → FirstOne bytes q n r
+pub earlier_found : (bytes : List ℕ) (q n m r : ℕ) → n ≤ m → Clear bytes q n m → IsFirst bytes q m r → IsFirst bytes q n r
 earlier_found bytes q n m r l passed one = record {
   from = omega (arith, one.from);
   within = one.within;
@@ -57,10 +58,11 @@ module _ (bytes : List ℕ) (at from k w : ℕ) (low : 8 * from ≤ k) (high : k
     pub behind-le : 8 * from + behind ≤ k
     behind-le = omega (arith, behind_in)
 
-    pub met_to : (left : ℕ) → left ≡ k + 1 → LastOne bytes (8 * at) left (left - behind)
+    pub met_to : (left : ℕ) → left ≡ k + 1 → IsLast bytes (8 * at) left (left - behind)
     met_to left e = record {
+      some = omega (arith, behind_in);
       within = omega arith;
-      found = λ g. there (63 - past - behind) (left - behind - 1) (omega (arith, behind_in)) ∙ last_one bytes (8 * (at + from)) w is past some;
+      found = there (63 - past - behind) (left - behind - 1) (omega (arith, behind_in)) ∙ last_one bytes (8 * (at + from)) w is past some;
       clear = λ j g h. there (63 - past - (k - j)) j (omega (arith, behind_in)) ∙ last-zeros bytes (8 * (at + from)) w is past some (k - j) (omega (arith, behind_in));
     }
 
@@ -90,11 +92,11 @@ module _ (bytes : List ℕ) (at from k w : ℕ) (low : 8 * from ≤ k) (high : k
     not-before : skipped ≤ first
     not-before = first-from bytes (8 * (at + from)) w is skipped near few refl some
 
-    pub met_from : from ≤ 492 → FirstOne bytes (8 * at) k (8 * from + first)
+    pub met_from : from ≤ 492 → IsFirst bytes (8 * at) k (8 * from + first)
     met_from most = record {
       from = omega (arith, not-before);
       within = omega (arith, first-lt);
-      found = λ g. there first (8 * from + first) refl ∙ first_one bytes (8 * (at + from)) w is skipped near few refl some;
+      found = there first (8 * from + first) refl ∙ first_one bytes (8 * (at + from)) w is skipped near few refl some;
       clear = λ j g h.
           there (j - 8 * from) j (omega arith)
           ∙ first-zeros bytes (8 * (at + from)) w is skipped near few refl some (j - 8 * from) (omega arith) (omega arith);

@@ -30,11 +30,11 @@ fn word_from(k: usize) -> usize
     k / 8
 }
 
-// How many of the first n bits from byte `at` on there are up to the last one among them, 0 if they
-// have none.
+// How many of the first n bits from byte `at` on there are up to the last one among them, if they
+// have one.
 // It lends its bytes to no call that stays one: a list lent on is copied first, and the copy waits
 // for the caller's stores.
-pub fn last_one(b: &[u8], at: usize, n: usize) -> usize
+pub fn last_one(b: &[u8], at: usize, n: usize) -> Option<usize>
     requires n_bound { n ≤ 4000 }
     requires at_in_bounds { at + 500 ≤ length b.now }
     ensures { LastOne b.now (8 * at) n result }
@@ -45,16 +45,16 @@ pub fn last_one(b: &[u8], at: usize, n: usize) -> usize
         let from = word_to(k);
         let near = whole_word(b, at + from) >> (63 - (k - 8 * from));
         if near != 0 {
-            return left - u64::trailing_zeros(near) as usize;
+            return Some(left - u64::trailing_zeros(near) as usize);
         }
         left = 8 * from;
     }
-    0
+    None
 }
 
 // How many of the first 4000 bits from byte `at` on come before the first one that is not among the
-// first n, 4000 if there is none.
-pub fn first_one(b: &[u8], at: usize, n: usize) -> usize
+// first n, if there is one.
+pub fn first_one(b: &[u8], at: usize, n: usize) -> Option<usize>
     requires n_bound { n ≤ 4000 }
     requires at_in_bounds { at + 500 ≤ length b.now }
     ensures { FirstOne b.now (8 * at) n result }
@@ -64,9 +64,9 @@ pub fn first_one(b: &[u8], at: usize, n: usize) -> usize
         let from = word_from(next);
         let near = whole_word(b, at + from) & (0xFFFFFFFFFFFFFFFF >> (next - 8 * from));
         if near != 0 {
-            return 8 * from + u64::leading_zeros(near) as usize;
+            return Some(8 * from + u64::leading_zeros(near) as usize);
         }
         next = 8 * from + 64;
     }
-    4000
+    None
 }

@@ -96,6 +96,7 @@ found (suc n) w c k less some lk lc =
           let up : lane (w / 256) i ≡ lane w (suc i) =
           ap (λ v. v % 256) (shr-shr w 8 (8 * i) ∙ ap (λ j. w / 2 ^ j) (let e : 8 + 8 * i ≡ 8 * suc i = omega arith in e)) in
           let count = ones-append (byte_bits x) (word_bits (w / 256) i) in
+          let less : k - d - ones (word_bits (w / 256) i) ≡ k - c - ones (word_bits w (suc i)) = omega arith in
           subst (Found w (suc n) c k) (let e : suc i ≡ t / 8 = omega (arith, zeros) in e) (record {
             within = omega (arith, f.within);
             short = omega (arith, f.short);
@@ -104,7 +105,7 @@ found (suc n) w c k less some lk lc =
                 ∙ ap (λ m. length (byte_bits x) + position rest m) (let e : k - c - ones_in x ≡ k - d = omega arith in e)
                 ∙ ap (λ m. length (byte_bits x) + m) f.place
                 ∙ ap (λ y. length (byte_bits x) + (8 * i + position (byte_bits y) (k - d - ones (word_bits (w / 256) i)))) up
-                ∙ ap (λ m. length (byte_bits x) + (8 * i + position (byte_bits (lane w (suc i))) m)) (let e : k - d - ones (word_bits (w / 256) i) ≡ k - c - ones (word_bits w (suc i)) = omega arith in e)
+                ∙ ap (λ m. length (byte_bits x) + (8 * i + position (byte_bits (lane w (suc i))) m)) less
                 ∙ (let e : length (byte_bits x) + (8 * i + position (byte_bits (lane w (suc i))) (k - c - ones (word_bits w (suc i))))
                 ≡ 8 * suc i + position (byte_bits (lane w (suc i))) (k - c - ones (word_bits w (suc i))) = omega (arith, byte_length x) in e);
           })

@@ -1,21 +1,21 @@
--- Eight bytes at once: the number that they are stored as, and its ones.
+-- Eight bytes at once: the numbers that they write, least or most significant first, and their
+-- ones.
 use mathlib.Core.Path.{◌≡◌, refl, sym, ap, ◌∙◌}
 use mathlib.Core.List.{List, [], ◌∷◌}
-use Prim.Native.Nat.{ℕ, zero, suc, ◌+◌, ◌*◌, ◌%◌, ◌^◌, ◌<◌, ◌≤◌}
+use Prim.Native.Nat.{ℕ, zero, suc, ◌+◌, ◌*◌}
 use native.Mathlib.Omega.{arith}
-use lib.Bits.{bit_or, or_shifted_r, or_lt}
-use lib.Pow.{shl_exact, shl_lt, pow_mono}
 use lib.Count.{ones_cat}
 use lib.Count as count
 use lib.ListN.{length, get_or}
 use Rattle.meaning.specs.Strings.{Bit, O, I, ones}
 use Rattle.meaning.specs.Bytes.{bits_from, number, value}
 use Rattle.theory.specs.Layout.{AreBytes}
-use Rattle.theory.proofs.Digits.{byte_lt, number_lt}
+use Rattle.theory.proofs.Digits.{number_lt}
 use Rattle.theory.proofs.Odd.{ones-append}
 use Rattle.theory.proofs.Packing.{bits-length, bits-cut}
 use Rattle.bits_word.specs.Little.{little}
-use Rattle.bits_word.proofs.Numbers.{number_of_byte}
+use Rattle.std.specs.Int.{w64, from_le_bytes, from_be_bytes}
+use Rattle.bits_word.proofs.Numbers.{number_of_byte, byte_more}
 
 -- ---- the ones of a number
 
@@ -49,67 +49,38 @@ module _ (bytes : List ℕ) where
 
 -- ---- bytes put together
 
--- one more byte above the first k digits of a word
-glue : (k w x : ℕ) → w < 2 ^ k → x < 256 → k + 8 ≤ 64 → bit_or w (x * 2 ^ k % 2 ^ 64) ≡ x * 2 ^ k + w
-glue k w x h g l = rw (shl_exact {a = x} 8 k 64 g (omega arith)) (or_shifted_r x k w h)
+module _ (bytes : List ℕ) (are : AreBytes bytes) (at : ℕ) where
+  abbrev eight : List ℕ
+  eight =
+      get_or bytes at 0 ∷ get_or bytes (at + 1) 0 ∷ get_or bytes (at + 2) 0 ∷ get_or bytes (at + 3) 0
+      ∷ get_or bytes (at + 4) 0 ∷ get_or bytes (at + 5) 0 ∷ get_or bytes (at + 6) 0 ∷ get_or bytes (at + 7) 0 ∷ []
 
-glue_lt : (k w x : ℕ) → w < 2 ^ k → x < 256 → k + 8 ≤ 64 → bit_or w (x * 2 ^ k % 2 ^ 64) < 2 ^ (8 + k)
-glue_lt k w x h g l =
-    rw (shl_exact {a = x} 8 k 64 g (omega arith)) (or_lt (8 + k) w (x * 2 ^ k) (omega (arith, pow_mono {i = k} {j = 8 + k} (omega arith))) (shl_lt {a = x} 8 k g))
+  here : (k i : ℕ) → at + k ≡ i → number 8 (bits_from bytes (8 * i) 8) ≡ get_or bytes (at + k) 0
+  here k i e = number_of_byte bytes are i ∙ ap (λ n. get_or bytes n 0) (sym e)
 
--- as code puts eight bytes into a word
-abbrev pub shifted : ℕ → ℕ → ℕ
-shifted x k = x * 2 ^ k % 2 ^ 64
-
-module _ (bytes : List ℕ) (at a b c d e f g h : ℕ) (are : AreBytes bytes)
-    (ea : a ≡ get_or bytes at 0) (eb : b ≡ get_or bytes (at + 1) 0) (ec : c ≡ get_or bytes (at + 2) 0) (ed : d ≡ get_or bytes (at + 3) 0)
-    (ee : e ≡ get_or bytes (at + 4) 0) (ef : f ≡ get_or bytes (at + 5) 0) (eg : g ≡ get_or bytes (at + 6) 0) (eh : h ≡ get_or bytes (at + 7) 0) where
-  pub glued :
-      bit_or (bit_or (bit_or (bit_or (bit_or (bit_or (bit_or a (shifted b 8)) (shifted c 16)) (shifted d 24)) (shifted e 32)) (shifted f 40)) (shifted g 48)) (shifted h 56)
-      ≡ little bytes at 8
+  pub little_eight : from_le_bytes w64 eight ≡ little bytes at 8
   unfolding little
-  glued =
-      let w2 = bit_or a (shifted b 8) in
-      let w3 = bit_or w2 (shifted c 16) in
-      let w4 = bit_or w3 (shifted d 24) in
-      let w5 = bit_or w4 (shifted e 32) in
-      let w6 = bit_or w5 (shifted f 40) in
-      let w7 = bit_or w6 (shifted g 48) in
-      let la : a < 2 ^ 8 = byte a at ea in
-      let lb = byte b (at + 1) eb in
-      let lc = byte c (at + 2) ec in
-      let ld = byte d (at + 3) ed in
-      let le = byte e (at + 4) ee in
-      let lf = byte f (at + 5) ef in
-      let lg = byte g (at + 6) eg in
-      let lh = byte h (at + 7) eh in
-      let l2 = glue_lt 8 a b la lb (omega arith) in
-      let l3 = glue_lt 16 w2 c l2 lc (omega arith) in
-      let l4 = glue_lt 24 w3 d l3 ld (omega arith) in
-      let l5 = glue_lt 32 w4 e l4 le (omega arith) in
-      let l6 = glue_lt 40 w5 f l5 lf (omega arith) in
-      let l7 = glue_lt 48 w6 g l6 lg (omega arith) in
-      omega (
-        arith,
-        glue 8 a b la lb (omega arith),
-        glue 16 w2 c l2 lc (omega arith),
-        glue 24 w3 d l3 ld (omega arith),
-        glue 32 w4 e l4 le (omega arith),
-        glue 40 w5 f l5 lf (omega arith),
-        glue 48 w6 g l6 lg (omega arith),
-        glue 56 w7 h l7 lh (omega arith),
-        number_of_byte bytes are at,
-        here b 1 eb (suc at) (omega arith),
-        here c 2 ec (suc (suc at)) (omega arith),
-        here d 3 ed (suc (suc (suc at))) (omega arith),
-        here e 4 ee (suc (suc (suc (suc at)))) (omega arith),
-        here f 5 ef (suc (suc (suc (suc (suc at))))) (omega arith),
-        here g 6 eg (suc (suc (suc (suc (suc (suc at)))))) (omega arith),
-        here h 7 eh (suc (suc (suc (suc (suc (suc (suc at))))))) (omega arith),
-      )
-    where
-      byte : (x i : ℕ) → x ≡ get_or bytes i 0 → x < 256
-      byte x i q = omega (arith, byte_lt bytes are i)
+  little_eight = omega (
+    arith,
+    number_of_byte bytes are at,
+    here 1 (suc at) (omega arith),
+    here 2 (suc (suc at)) (omega arith),
+    here 3 (suc (suc (suc at))) (omega arith),
+    here 4 (suc (suc (suc (suc at)))) (omega arith),
+    here 5 (suc (suc (suc (suc (suc at))))) (omega arith),
+    here 6 (suc (suc (suc (suc (suc (suc at)))))) (omega arith),
+    here 7 (suc (suc (suc (suc (suc (suc (suc at))))))) (omega arith),
+  )
 
-      here : (x k : ℕ) → x ≡ get_or bytes (at + k) 0 → (i : ℕ) → at + k ≡ i → number 8 (bits_from bytes (8 * i) 8) ≡ x
-      here x k q i r = number_of_byte bytes are i ∙ ap (λ n. get_or bytes n 0) (sym r) ∙ sym q
+  pub number_eight : from_be_bytes w64 eight ≡ number 64 (bits_from bytes (8 * at) 64)
+  number_eight = omega (
+    arith,
+    number_of_byte bytes are at,
+    byte_more bytes are at 1,
+    byte_more bytes are at 2,
+    byte_more bytes are at 3,
+    byte_more bytes are at 4,
+    byte_more bytes are at 5,
+    byte_more bytes are at 6,
+    byte_more bytes are at 7,
+  )

@@ -1,4 +1,4 @@
--- Bits as the number that they write, most significant first: bytes and half words put together.
+-- Bits as the number that they write, most significant first: bytes put together.
 use mathlib.Core.Path.{◌≡◌, sym, ap, ap₂, ◌∙◌}
 use mathlib.Core.List.{List, [], ◌∷◌, ◌++◌}
 use Prim.Native.Nat.{ℕ, suc, ◌+◌, ◌*◌, ◌^◌}
@@ -46,19 +46,8 @@ module _ (bytes : List ℕ) where
         ∙ byte_number (get_or bytes i 0) (byte_lt bytes are i)
 
     -- one byte more
-    byte_more : (at i : ℕ) → number (8 * i + 8) (bits_from bytes (8 * at) (8 * i + 8)) ≡ number (8 * i) (bits_from bytes (8 * at) (8 * i)) * 256 + get_or bytes (at + i) 0
+    pub byte_more : (at i : ℕ) → number (8 * i + 8) (bits_from bytes (8 * at) (8 * i + 8)) ≡ number (8 * i) (bits_from bytes (8 * at) (8 * i)) * 256 + get_or bytes (at + i) 0
     byte_more at i =
         number_cut (8 * at) (8 * i) 8
         ∙ ap (λ p. number (8 * i) (bits_from bytes (8 * at) (8 * i)) * 256 + number 8 (bits_from bytes p 8)) (let e : 8 * at + 8 * i ≡ 8 * (at + i) = omega arith in e)
         ∙ ap (λ x. number (8 * i) (bits_from bytes (8 * at) (8 * i)) * 256 + x) (number_of_byte (at + i))
-
-    pub four_bytes : (at a b c d : ℕ) → a ≡ get_or bytes at 0 → b ≡ get_or bytes (at + 1) 0 → c ≡ get_or bytes (at + 2) 0 → d ≡ get_or bytes (at + 3) 0
-        → a * 16777216 + b * 65536 + c * 256 + d ≡ number 32 (bits_from bytes (8 * at) 32)
-    four_bytes at a b c d ea eb ec ed =
-        omega (arith, number_of_byte at, byte_more at 1, byte_more at 2, byte_more at 3)
-
-  pub two_halves : (at h l : ℕ) → h ≡ number 32 (bits_from bytes (8 * at) 32) → l ≡ number 32 (bits_from bytes (8 * (at + 4)) 32)
-      → h * 4294967296 + l ≡ number 64 (bits_from bytes (8 * at) 64)
-  two_halves at h l eh el =
-      ap₂ (λ x y. x * 4294967296 + y) eh (el ∙ ap (λ p. number 32 (bits_from bytes p 32)) (let e : 8 * (at + 4) ≡ 8 * at + 32 = omega arith in e))
-      ∙ sym (number_cut (8 * at) 32 32)

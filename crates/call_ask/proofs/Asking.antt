@@ -15,12 +15,13 @@ use Rattle.meaning.specs.Image.{present, list_of, parents_in, metres_in}
 use Rattle.meaning.specs.Questions.{questions, not_allowed, answer_to}
 use Rattle.meaning.specs.Tests.{wrong_size, check_rows}
 use Rattle.calls.specs.Calls.{wrong_questions, ask_image}
+use Rattle.std.specs.Prelude.{Ok, Err, Option, Some}
+use Rattle.theory.specs.Places.{place_of}
+use Rattle.theory.proofs.Places.{the_place}
 use Rattle.theory.proofs.Settled.{or-first, or-second, or_neither, unequal, equal, settle-here, settle_on, settle-none}
 use Rattle.theory.proofs.Stages.{parts_read}
 use Rattle.image_layout.specs.declared.Layout.{Layout}
-use Rattle.image_found.specs.declared.Checked.{Checked}
-use Rattle.image_found.specs.declared.Checked.TheVariants.{Sound, Refused}
-use Rattle.image_found.specs.Checked.{checked}
+use Rattle.image_found.specs.Checked.{Checked, checked}
 use Rattle.image_found.proofs.Finding.{comes_to, rows_checked, sound_known}
 use Rattle.nav_metres.specs.Presence.{are_at}
 use Rattle.nav_metres.proofs.Measures.{presence}
@@ -67,10 +68,10 @@ module _ (bytes : List ℕ) (qs : List ℤ) (out : List ℕ) where
     unfolding ask_image
     by_check c e = rows_checked out rest counted (written answers out) bytes (wrong_questions qs) right ∙ ap (comes_to out rest counted (written answers out)) e
 
-    pub asked_refused : (r : Refusal) → checked bytes ≡ Refused r → came_to (refused_with r.code r.place) out ≡ ask_image bytes qs out
-    asked_refused r e = sym (by_check (Refused r) e)
+    pub asked_refused : (r : Refusal) → checked bytes ≡ Err r → came_to (refused_with r.code r.place) out ≡ ask_image bytes qs out
+    asked_refused r e = sym (by_check (Err r) e)
 
-    module _ (i : Layout) (e : checked bytes ≡ Sound i) where
+    module _ (i : Layout) (e : checked bytes ≡ Ok i) where
       nodes_are : length given ≡ i.nodes
       nodes_are = let k = sound_known bytes i e in (parts_read bytes k.image).count ∙ ap (λ j. j.nodes) (sym k.read)
 
@@ -82,20 +83,21 @@ module _ (bytes : List ℕ) (qs : List ℤ) (out : List ℕ) where
       bad_is = ap (λ n. not_allowed n (present (metres_in bytes)) (questions qs) 0) nodes_are
 
       -- and by where the layout has the metres
-      pub lowest_is : (y : ℕ) (t : Bool) → t ≡ are_at i.metres → y ≡ not_allowed i.nodes t (questions qs) 0 → y ≡ lowest
-      lowest_is y t f g = g ∙ ap (λ b. not_allowed i.nodes b (questions qs) 0) (f ∙ presence bytes i e)
+      pub lowest_is : (y : Option ℕ) (t : Bool) → t ≡ are_at i.metres → y ≡ place_of (not_allowed i.nodes t (questions qs) 0) → y ≡ place_of lowest
+      lowest_is y t f g = g ∙ ap (λ b. place_of (not_allowed i.nodes b (questions qs) 0)) (f ∙ presence bytes i e)
 
       count_is : length answers ≡ length qs / 3
       count_is = length-map (questions qs) (answer_to given (list_of (metres_in bytes))) ∙ questions-count qs
 
-      pub asked_bad : (lowest ≡ 0 → ⊥) → came_to (refused_with 8 lowest) out ≡ ask_image bytes qs out
-      asked_bad h =
-          ap (λ p. came_to (refused_with 8 p) out) (sym bad_is)
-          ∙ sym (by_check (Sound i) e ∙ settle-here out counted (written answers out) (8 at bad when ltb 0 bad) (short ∷ []) (lt-ltb 0 bad (omega (arith, bad_is))))
+      pub asked_bad : (k : ℕ) → place_of lowest ≡ Some k → came_to (refused_with 8 k) out ≡ ask_image bytes qs out
+      asked_bad k h =
+          let p = the_place lowest k h in
+          ap (λ p. came_to (refused_with 8 p) out) (sym (bad_is ∙ p.0))
+          ∙ sym (by_check (Ok i) e ∙ settle-here out counted (written answers out) (8 at bad when ltb 0 bad) (short ∷ []) (lt-ltb 0 bad (omega (arith, bad_is))))
 
       module _ (fine : lowest ≡ 0) where
         by_room : ask_image bytes qs out ≡ settle out (short ∷ []) counted (written answers out)
-        by_room = by_check (Sound i) e ∙ settle_on out counted (written answers out) (8 at bad when ltb 0 bad) (short ∷ []) (le-ltb 0 bad (omega (arith, bad_is)))
+        by_room = by_check (Ok i) e ∙ settle_on out counted (written answers out) (8 at bad when ltb 0 bad) (short ∷ []) (le-ltb 0 bad (omega (arith, bad_is)))
 
         pub asked_short : length out < length qs / 3 → came_to (refused_with 1 0) out ≡ ask_image bytes qs out
         asked_short l = sym (by_room ∙ settle-here out counted (written answers out) short [] (lt-ltb (length out) (length answers) (omega (arith, count_is))))

@@ -1,4 +1,5 @@
 -- What each way out of joining comes to, by the rows of `meaning`.
+use Rattle.std.specs.Prelude.{Ok, Err}
 use mathlib.Core.Path.{◌≡◌, sym, ap, ap₂, ◌∙◌}
 use mathlib.Core.Bool.{Bool, true, false}
 use mathlib.Core.List.{List, [], ◌∷◌, ◌++◌}
@@ -19,7 +20,6 @@ use Rattle.theory.proofs.Forms.{string-size}
 use Rattle.theory.proofs.Packing.{bits-length, packed-length}
 use Rattle.bits_append.specs.Appended.{appended}
 use Rattle.meaning.specs.declared.Refusal.{Refusal}
-use Rattle.meaning.specs.declared.Verdict.TheVariants.{Passed, Refused}
 use Rattle.table_sizes.specs.ToJoin.{JoinSized, JoinSizes}
 use Rattle.table_sizes.proofs.ToJoin.{none_wrong, told_wrong}
 
@@ -40,10 +40,10 @@ module _ (pack : List ℕ) (L k : ℕ) (ps : List ℕ) where
     unfolding join_pack
     sizes_right q = sym (settle_on _ _ _ _ _ (none_wrong (length pack) L k (length ps) s) ∙ q)
 
-    pub join_refused : {r : Refusal} → Refused r ≡ first_holding (pack_rows pack L k) → came_to (refused_with r.code r.place) pack ≡ join_pack pack L k ps
+    pub join_refused : {r : Refusal} → Err r ≡ first_holding (pack_rows pack L k) → came_to (refused_with r.code r.place) pack ≡ join_pack pack L k ps
     join_refused e = sizes_right (settle-refused pack _ _ rest (pack_rows pack L k) e)
 
-    module _ (held : Passed ≡ first_holding (pack_rows pack L k)) where
+    module _ (held : (Ok tt) ≡ first_holding (pack_rows pack L k)) where
       -- the rows of the parent list and of the room
       last : {o : Outcome (List ℕ)} → settle pack rest (counts (L + (2 * length ps + 1)) (k + 1)) (written joined pack) ≡ o → o ≡ join_pack pack L k ps
       last q = sizes_right (settle_passed pack _ _ rest (pack_rows pack L k) held ∙ q)

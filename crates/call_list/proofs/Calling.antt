@@ -1,4 +1,5 @@
 -- What the listing of a node comes to, from what the check and the measuring found.
+use Rattle.std.specs.Prelude.{Result, Ok, Err}
 use mathlib.Core.Path.{◌≡◌, refl, sym, ap, ap₂, ◌∙◌, subst}
 use mathlib.Core.Bool.{Bool, true, false, not, ◌&&◌}
 use mathlib.Core.List.{List, [], ◌∷◌}
@@ -16,30 +17,26 @@ use Rattle.meaning.specs.Listing.{listing, deep}
 use Rattle.calls.specs.Calls.{list_image}
 use Rattle.theory.proofs.Settled.{settle-here, settle_on, settle-none}
 use Rattle.image_layout.specs.declared.Layout.{Layout}
-use Rattle.image_found.specs.declared.Checked.{Checked}
-use Rattle.image_found.specs.declared.Checked.TheVariants.{Sound, Refused}
-use Rattle.image_found.specs.Checked.{checked}
+use Rattle.image_found.specs.Checked.{Checked, checked}
 use Rattle.image_found.proofs.Finding.{comes_to, rows_checked}
-use Rattle.list_measure.specs.declared.Measured.{Measured}
-use Rattle.list_measure.specs.declared.Measured.TheVariants.{Fits, TooDeep}
 use Rattle.list_measure.specs.Levels.{ones_before_in, sized, size_of, WhereFits}
 use Rattle.list_measure.proofs.Levels.{listing_even, listing_less}
 use Rattle.list_measure.proofs.Numbers.{ones_before_in_mono, ones_before_in_kids, parents-count}
 
 -- ---- what is measured tells
 
-fits-or-deep : {X : Type 0} (n w : ℕ) → Fits n ≡ TooDeep w → X
+fits-or-deep : {X : Type 0} (n w : ℕ) → Ok n ≡ Err w → X
 fits-or-deep n w e = let z : ◌≡◌ {A = ℕ} 0 1 = cc in absurd (omega arith)
 
-deep_tells : (d n w : ℕ) → sized d n ≡ TooDeep w → (d ≡ w) × (0 < d)
+deep_tells : (d n w : ℕ) → sized d n ≡ Err w → (d ≡ w) × (0 < d)
 deep_tells zero n w e = fits-or-deep n w e
 deep_tells (suc d) n w e = (cc, omega arith)
 
-fits_tells : (d n k : ℕ) → sized d n ≡ Fits k → (d ≡ 0) × (n ≡ k)
+fits_tells : (d n k : ℕ) → sized d n ≡ Ok k → (d ≡ 0) × (n ≡ k)
 fits_tells zero n k e = (refl, cc)
 fits_tells (suc d) n k e = fits-or-deep k (suc d) (sym e)
 
-pub where_fits : {P : Type 0} (m : Measured) (n : ℕ) → m ≡ Fits n → WhereFits m P → P
+pub where_fits : {P : Type 0} (m : Result ℕ ℕ) (n : ℕ) → m ≡ Ok n → WhereFits m P → P
 where_fits {P} m n e w = subst (λ k. WhereFits k P) e w
 
 -- ---- nodes
@@ -83,12 +80,12 @@ module _ (bytes : List ℕ) (x : ℕ) (out : List ℕ) where
   by_check c e =
       rows_checked out (first ∷ second ∷ third ∷ []) counted after bytes false refl ∙ ap (comes_to out (first ∷ second ∷ third ∷ []) counted after) e
 
-  pub list_refused : (r : Refusal) → checked bytes ≡ Refused r → came_to (refused_with r.code r.place) out ≡ list_image bytes x out
-  list_refused r e = sym (by_check (Refused r) e)
+  pub list_refused : (r : Refusal) → checked bytes ≡ Err r → came_to (refused_with r.code r.place) out ≡ list_image bytes x out
+  list_refused r e = sym (by_check (Err r) e)
 
-  module _ (i : Layout) (e : checked bytes ≡ Sound i) where
+  module _ (i : Layout) (e : checked bytes ≡ Ok i) where
     no_node : not (is_node (length (parents_in bytes)) x) ≡ true → came_to (refused_with 8 1) out ≡ list_image bytes x out
-    no_node h = sym (by_check (Sound i) e ∙ settle-here out counted after first (second ∷ third ∷ []) h)
+    no_node h = sym (by_check (Ok i) e ∙ settle-here out counted after first (second ∷ third ∷ []) h)
 
     pub list_zero : x ≡ 0 → came_to (refused_with 8 1) out ≡ list_image bytes x out
     list_zero h = no_node (below-first (length (parents_in bytes)) x h)
@@ -98,17 +95,17 @@ module _ (bytes : List ℕ) (x : ℕ) (out : List ℕ) where
 
     module _ (some : 1 ≤ x) (most : x ≤ i.nodes) where
       of_node : list_image bytes x out ≡ settle out (second ∷ third ∷ []) counted after
-      of_node = by_check (Sound i) e
+      of_node = by_check (Ok i) e
           ∙ settle_on out counted after first (second ∷ third ∷ []) (among (length (parents_in bytes)) x some (omega (arith, parents-count bytes i e)))
 
-      pub list_deep : (w : ℕ) → TooDeep w ≡ size_of pairs → came_to (refused_with 9 w) out ≡ list_image bytes x out
+      pub list_deep : (w : ℕ) → Err w ≡ size_of pairs → came_to (refused_with 9 w) out ≡ list_image bytes x out
       unfolding size_of
       list_deep w m =
           let r = deep_tells (deep pairs) (length pairs / 2) w (sym m) in
           ap (λ p. came_to (refused_with 9 p) out) (sym r.0)
           ∙ sym (of_node ∙ settle-here out counted after second (third ∷ []) (lt-ltb 0 (deep pairs) r.1))
 
-      module _ (n : ℕ) (m : Fits n ≡ size_of pairs) where
+      module _ (n : ℕ) (m : Ok n ≡ size_of pairs) where
         none_deep : deep pairs ≡ 0
         unfolding size_of
         none_deep = (fits_tells (deep pairs) (length pairs / 2) n (sym m)).0

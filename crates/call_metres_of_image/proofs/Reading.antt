@@ -1,4 +1,5 @@
 -- What reading the metres of an image comes to, from what the check found.
+use Rattle.std.specs.Prelude.{Ok, Err, None, Some}
 use mathlib.Core.Path.{◌≡◌, refl, sym, ap, ap₂, ◌∙◌}
 use mathlib.Core.Bool.{Bool, true, false, cond, not}
 use mathlib.Core.List.{List, [], ◌∷◌}
@@ -17,13 +18,10 @@ use Rattle.theory.specs.Stages.{Stages, nodes_of, runs_of, version_in, metres_bl
 use Rattle.theory.proofs.Settled.{settle-here, settle_on, settle-none}
 use Rattle.theory.proofs.TreeImages.{length-numbers_in}
 use Rattle.theory.proofs.Stages.{image_stages, metres_read_lem}
-use Rattle.image_layout.specs.declared.MetresAt.TheVariants.{Nowhere, From}
 use Rattle.image_layout.specs.declared.Layout.{Layout}
 use Rattle.image_layout.specs.Layout.{metres_at}
 use Rattle.image_layout.proofs.Laying.{from-version, nowhere_version}
-use Rattle.image_found.specs.declared.Checked.{Checked}
-use Rattle.image_found.specs.declared.Checked.TheVariants.{Sound, Refused}
-use Rattle.image_found.specs.Checked.{checked}
+use Rattle.image_found.specs.Checked.{Checked, checked}
 use Rattle.image_found.proofs.Finding.{IsSound, comes_to, rows_checked, sound_known}
 
 -- ---- the answers
@@ -45,10 +43,10 @@ module _ (bytes out : List ℕ) where
       rows_checked out (absent ∷ short ∷ []) (counts (length (list_of ms)) 0) (written (list_of ms) out) bytes false refl
       ∙ ap (comes_to out (absent ∷ short ∷ []) (counts (length (list_of ms)) 0) (written (list_of ms) out)) e
 
-  pub metres-refused : (r : Refusal) → checked bytes ≡ Refused r → came_to (refused_with r.code r.place) out ≡ metres_of_image bytes out
-  metres-refused r e = sym (by_check (Refused r) e)
+  pub metres-refused : (r : Refusal) → checked bytes ≡ Err r → came_to (refused_with r.code r.place) out ≡ metres_of_image bytes out
+  metres-refused r e = sym (by_check (Err r) e)
 
-  module _ (i : Layout) (e : checked bytes ≡ Sound i) where
+  module _ (i : Layout) (e : checked bytes ≡ Ok i) where
     known : IsSound bytes i
     known = sound_known bytes i e
 
@@ -65,13 +63,13 @@ module _ (bytes out : List ℕ) where
     abbrev held : Bool → Option (List ℕ)
     held t = cond t (some (numbers_in bytes (metres_block (nodes_of bytes) (runs_of bytes)) 0 (nodes_of bytes))) none
 
-    pub metres-absent : i.metres ≡ Nowhere → came_to (refused_with 8 1) out ≡ metres_of_image bytes out
+    pub metres-absent : i.metres ≡ None → came_to (refused_with 8 1) out ≡ metres_of_image bytes out
     metres-absent f =
         let one : eqb (version_in bytes) 2 ≡ false = nowhere_version (eqb (version_in bytes) 2) (metres_block (nodes_of bytes) (runs_of bytes)) (sym at_is ∙ f) in
-        sym (by_check (Sound i) e
+        sym (by_check (Ok i) e
         ∙ settle-here out (counts (length (list_of ms)) 0) (written (list_of ms) out) absent (short ∷ []) (ap (λ m. not (present m)) (metres_read_lem bytes long ∙ ap held one)))
 
-    module _ (block : ℕ) (f : i.metres ≡ From block) where
+    module _ (block : ℕ) (f : i.metres ≡ Some block) where
       two : (eqb (version_in bytes) 2 ≡ true) × (metres_block (nodes_of bytes) (runs_of bytes) ≡ block)
       two = from-version (eqb (version_in bytes) 2) (metres_block (nodes_of bytes) (runs_of bytes)) block (sym at_is ∙ f)
 
@@ -99,14 +97,14 @@ module _ (bytes out : List ℕ) where
 
       pub metres-short : length out < i.nodes → came_to (refused_with 1 0) out ≡ metres_of_image bytes out
       metres-short l =
-          sym (by_check (Sound i) e
+          sym (by_check (Ok i) e
           ∙ settle_on out (counts (length (list_of ms)) 0) (written (list_of ms) out) absent (short ∷ []) passed
           ∙ settle-here out (counts (length (list_of ms)) 0) (written (list_of ms) out) short [] (lt-ltb (length out) (length (list_of ms)) (omega (arith, counted))))
 
       pub metres-given : i.nodes ≤ length out → came_to (counts i.nodes 0) (written (numbers_in bytes block 0 i.nodes) out) ≡ metres_of_image bytes out
       metres-given l =
           ap₂ (λ n ws. came_to (counts n 0) (written ws out)) (sym counted) (sym (ap list_of metres_are))
-          ∙ sym (by_check (Sound i) e
+          ∙ sym (by_check (Ok i) e
           ∙ settle_on out (counts (length (list_of ms)) 0) (written (list_of ms) out) absent (short ∷ []) passed
           ∙ settle_on out (counts (length (list_of ms)) 0) (written (list_of ms) out) short [] (le-ltb (length out) (length (list_of ms)) (omega (arith, counted)))
           ∙ settle-none out (counts (length (list_of ms)) 0) (written (list_of ms) out))

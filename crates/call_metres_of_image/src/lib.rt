@@ -2,14 +2,13 @@
 #![tactic(auto)]
 
 ghost use Rattle.std.specs.Prelude.{◌≡◌};
-ghost use Rattle.meaning.specs.Answers.{came_to};
+ghost use Rattle.meaning.specs.Answers.{answer_of, came_to};
 ghost use Rattle.calls.specs.Calls.{metres_of_image};
 
 use check_image::check;
-use image_found::{Checked, answer_of};
-use image_layout::MetresAt;
-use meaning::{Answer, NO_ROOM, NOT_ALLOWED};
-use table_answers::{done, refuse};
+use image_found::answer_of;
+use meaning::{Answer, NO_ROOM, NOT_ALLOWED, Refusal};
+use table_answers::{answered, done, refuse};
 use unseal_metres::write_metres;
 
 // The metres of a sound image. One without metres is refused, whatever the room: none are not 0
@@ -17,12 +16,18 @@ use unseal_metres::write_metres;
 pub fn metres_of_image(b: &[u8], out: &mut [u32]) -> Answer
     ensures { came_to result out.new ≡ metres_of_image b.now out.old }
 {
+    answered(try_metres_of_image(b, out))
+}
+
+fn try_metres_of_image(b: &[u8], out: &mut [u32]) -> Result<Answer, Refusal>
+    ensures { came_to (answer_of result) out.new ≡ metres_of_image b.now out.old }
+{
     let found = check(b);
-    let Checked::Sound(image) = found else {
-        return answer_of(found);
+    let Ok(image) = found else {
+        return Ok(answer_of(found));
     };
     let at = image.metres;
-    let MetresAt::From(block) = at else {
+    let Some(block) = at else {
         return refuse(NOT_ALLOWED, 1);
     };
     let nodes = image.nodes as usize;
@@ -30,5 +35,5 @@ pub fn metres_of_image(b: &[u8], out: &mut [u32]) -> Answer
         return refuse(NO_ROOM, 0);
     }
     write_metres(b, block as usize, nodes, out);
-    done(image.nodes, 0)
+    Ok(done(image.nodes, 0))
 }

@@ -1,4 +1,5 @@
 -- What reading the parents of an image comes to, from what the check found.
+use Rattle.std.specs.Prelude.{Ok, Err}
 use mathlib.Core.Path.{◌≡◌, refl, sym, ap, ap₂, ◌∙◌, subst}
 use mathlib.Core.Bool.{false}
 use mathlib.Core.List.{List, [], ◌∷◌}
@@ -17,9 +18,7 @@ use Rattle.theory.proofs.InStep.{runs_ended}
 use Rattle.theory.proofs.TreeImages.{length-string_in}
 use Rattle.theory.proofs.Stages.{image_stages, parts_read}
 use Rattle.image_layout.specs.declared.Layout.{Layout}
-use Rattle.image_found.specs.declared.Checked.{Checked}
-use Rattle.image_found.specs.declared.Checked.TheVariants.{Sound, Refused}
-use Rattle.image_found.specs.Checked.{checked}
+use Rattle.image_found.specs.Checked.{Checked, checked}
 use Rattle.image_found.proofs.Finding.{IsSound, comes_to, rows_checked, sound_known}
 use Rattle.unseal_parents.specs.Spread.{InRuns}
 
@@ -61,16 +60,16 @@ module _ (bytes out : List ℕ) where
       rows_checked out (1 at 0 when too_short given out ∷ []) (counts (length given) 0) (written given out) bytes false refl
       ∙ ap (comes_to out (1 at 0 when too_short given out ∷ []) (counts (length given) 0) (written given out)) e
 
-  pub parents-refused : (r : Refusal) → checked bytes ≡ Refused r → came_to (refused_with r.code r.place) out ≡ parents_of_image bytes out
-  parents-refused r e = sym (by_check (Refused r) e)
+  pub parents-refused : (r : Refusal) → checked bytes ≡ Err r → came_to (refused_with r.code r.place) out ≡ parents_of_image bytes out
+  parents-refused r e = sym (by_check (Err r) e)
 
-  module _ (i : Layout) (e : checked bytes ≡ Sound i) where
+  module _ (i : Layout) (e : checked bytes ≡ Ok i) where
     counted : length given ≡ i.nodes
     counted = let k = sound_known bytes i e in (parts_read bytes k.image).count ∙ ap (λ j. j.nodes) (sym k.read)
 
     pub parents-short : length out < i.nodes → came_to (refused_with 1 0) out ≡ parents_of_image bytes out
     parents-short l =
-        sym (by_check (Sound i) e ∙ settle-here out (counts (length given) 0) (written given out) (1 at 0 when too_short given out) [] (lt-ltb (length out) (length given) (omega (arith, counted))))
+        sym (by_check (Ok i) e ∙ settle-here out (counts (length given) 0) (written given out) (1 at 0 when too_short given out) [] (lt-ltb (length out) (length given) (omega (arith, counted))))
 
     pub parents-given : i.nodes ≤ length out
         → came_to (counts i.nodes 0) (written (parents_of (woven (string_in bytes 1 0 i.nodes) (string_in bytes i.r0_block 0 (i.nodes + 1)))) out) ≡ parents_of_image bytes out
@@ -79,6 +78,6 @@ module _ (bytes out : List ℕ) where
         ap₂ (λ n ps. came_to (counts n 0) (written ps out))
         (sym counted)
         (ap (λ j. parents_of (woven (string_in bytes 1 0 j.nodes) (string_in bytes j.r0_block 0 (j.nodes + 1)))) k.read ∙ (parts_read bytes k.image).given)
-        ∙ sym (by_check (Sound i) e
+        ∙ sym (by_check (Ok i) e
         ∙ settle_on out (counts (length given) 0) (written given out) (1 at 0 when too_short given out) [] (le-ltb (length out) (length given) (omega (arith, counted)))
         ∙ settle-none out (counts (length given) 0) (written given out))

@@ -11,14 +11,14 @@ use Rattle.theory.proofs.Packing.{bits-length}
 use Rattle.string_end_laws.specs.Ends.{over, refused, tree_end}
 use Rattle.string_end.specs.Ends.{end_of}
 use Rattle.string_end.specs.declared.TreeEnd.{TreeEnd}
-use Rattle.string_end.specs.declared.TreeEnd.TheVariants.{Over, Refused}
+use Rattle.std.specs.Prelude.{Result, Ok, Err}
 use Rattle.string_end_laws.proofs.Ends.{over-within, refused-within, one-refused, one-whole, one-past}
 
-module _ (b : List ℕ) (L : ℕ) (end : TreeEnd) (found : end_of end ≡ tree_end (bits_from b 0 (L - 0)) 0) where
+module _ (b : List ℕ) (L : ℕ) (end : Result TreeEnd ℕ) (found : end_of end ≡ tree_end (bits_from b 0 (L - 0)) 0) where
   ended : tree_end (bits_from b 0 L) 0 ≡ end_of end
   ended = ap (λ n. tree_end (bits_from b 0 n) 0) (let e : L ≡ L - 0 = omega arith in e) ∙ sym found
 
-  module _ {x : ℕ} (is : end ≡ Refused x) where
+  module _ {x : ℕ} (is : end ≡ Err x) where
     here : tree_end (bits_from b 0 L) 0 ≡ refused x
     here = ended ∙ ap end_of is
 
@@ -31,18 +31,18 @@ module _ (b : List ℕ) (L : ℕ) (end : TreeEnd) (found : end_of end ≡ tree_e
     pub refused_to : x ≤ L + 1
     refused_to = omega (arith, (refused-within (bits_from b 0 L) 0 here).1, bits-length b 0 L)
 
-  module _ {q s : ℕ} (is : end ≡ Over q s) where
-    there : tree_end (bits_from b 0 L) 0 ≡ over q s
+  module _ {tree : TreeEnd} (is : end ≡ Ok tree) where
+    there : tree_end (bits_from b 0 L) 0 ≡ over tree.next tree.size
     there = ended ∙ ap end_of is
 
-    pub over_to : q ≤ L
+    pub over_to : tree.next ≤ L
     over_to = omega (arith, (over-within (bits_from b 0 L) 0 there).1, bits-length b 0 L)
 
-    pub over-size : s ≤ 65535
+    pub over-size : tree.size ≤ 65535
     over-size = (over-within (bits_from b 0 L) 0 there).3
 
-    pub over-place : (q ≡ L → ⊥) → place one (bits_from b 0 L) ≡ q + 1
-    over-place h = one-past (bits_from b 0 L) there (omega (arith, over_to, bits-length b 0 L)) ∙ sym (add-one q)
+    pub over-place : (tree.next ≡ L → ⊥) → place one (bits_from b 0 L) ≡ tree.next + 1
+    over-place h = one-past (bits_from b 0 L) there (omega (arith, over_to, bits-length b 0 L)) ∙ sym (add-one tree.next)
 
-    pub over-whole : q ≡ L → (place one (bits_from b 0 L) ≡ 0) × (ones (bits_from b 0 L) ≡ s)
+    pub over-whole : tree.next ≡ L → (place one (bits_from b 0 L) ≡ 0) × (ones (bits_from b 0 L) ≡ tree.size)
     over-whole h = one-whole (bits_from b 0 L) there (omega (arith, bits-length b 0 L))

@@ -1,4 +1,5 @@
 -- What each way out of splitting comes to, by the rows of `meaning`.
+use Rattle.std.specs.Prelude.{Ok, Err}
 use mathlib.Core.Path.{◌≡◌, sym, ap, ap₂, ◌∙◌}
 use mathlib.Core.Bool.{Bool, true, ◌||◌}
 use mathlib.Core.List.{List, [], ◌∷◌, ◌++◌}
@@ -17,7 +18,6 @@ use Rattle.theory.specs.Rows.{NoneHolds}
 use Rattle.theory.proofs.Settled.{or-first, or-second, or_neither, settle-here, settle_on, settle-none, settle-refused, settle_passed, none_first}
 use Rattle.pack_scan.proofs.Parts.{starts-length}
 use Rattle.meaning.specs.declared.Refusal.{Refusal}
-use Rattle.meaning.specs.declared.Verdict.TheVariants.{Passed, Refused}
 use Rattle.pack_check.proofs.Rows.{held-count}
 use Rattle.table_sizes.specs.ToSplit.{SplitSized, SplitSizes}
 use Rattle.table_sizes.proofs.ToSplit.{none_wrong, told_wrong}
@@ -58,10 +58,10 @@ module _ (bytes : List ℕ) (L k : ℕ) (firsts sizes_out : List ℕ) where
     unfolding split_pack
     sizes_right q = sym (settle_on _ _ _ _ _ (none_wrong (length bytes) L k z) ∙ q)
 
-    pub split_refused : {r : Refusal} → Refused r ≡ first_holding (pack_rows bytes L k) → came_to (refused_with r.code r.place) lent ≡ split_pack bytes L k firsts sizes_out
+    pub split_refused : {r : Refusal} → Err r ≡ first_holding (pack_rows bytes L k) → came_to (refused_with r.code r.place) lent ≡ split_pack bytes L k firsts sizes_out
     split_refused e = sizes_right (settle-refused lent (counts L k) given room (pack_rows bytes L k) e)
 
-    module _ (held : Passed ≡ first_holding (pack_rows bytes L k)) where
+    module _ (held : (Ok tt) ≡ first_holding (pack_rows bytes L k)) where
       none : NoneHolds (pack_rows bytes L k)
       none = none_first (pack_rows bytes L k) held
 

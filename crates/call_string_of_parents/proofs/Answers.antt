@@ -1,4 +1,5 @@
 -- What each way out of the call comes to, by the rows of `meaning`.
+use Rattle.std.specs.Prelude.{Ok, Err}
 use mathlib.Core.Path.{◌≡◌, sym, ap, ap₂, ◌∙◌}
 use mathlib.Core.List.{List}
 use Prim.Native.Nat.{ℕ, ◌+◌, ◌*◌, ◌≤◌, ◌<◌}
@@ -9,7 +10,6 @@ use Rattle.meaning.specs.Strings.{string_of}
 use Rattle.meaning.specs.Bytes.{bytes_for, packed}
 use Rattle.meaning.specs.declared.Answer.{Answer}
 use Rattle.meaning.specs.declared.Refusal.{Refusal}
-use Rattle.meaning.specs.declared.Verdict.TheVariants.{Passed, Refused}
 use Rattle.meaning.specs.Answers.{refused_with, counts, came_to, first_holding, written}
 use Rattle.meaning.specs.Tests.{parent_rows}
 use Rattle.calls.specs.Calls.{string_of_parents}
@@ -19,11 +19,11 @@ use Rattle.theory.proofs.Packing.{packed-length}
 use Rattle.parents_check.proofs.Refusing.{writable}
 
 module _ (ps out : List ℕ) where
-  pub string-refused : {r : Refusal} → Refused r ≡ first_holding (parent_rows ps) → came_to (refused_with r.code r.place) out ≡ string_of_parents ps out
+  pub string-refused : {r : Refusal} → Err r ≡ first_holding (parent_rows ps) → came_to (refused_with r.code r.place) out ≡ string_of_parents ps out
   unfolding string_of_parents
   string-refused e = sym (settle-refused _ _ _ _ (parent_rows ps) e)
 
-  module _ (passed : Passed ≡ first_holding (parent_rows ps)) where
+  module _ (passed : (Ok tt) ≡ first_holding (parent_rows ps)) where
     packed-size : length (packed (string_of ps)) ≡ bytes_for (2 * length ps + 1)
     packed-size = packed-length (string_of ps) ∙ ap (λ L. bytes_for L) (string-size ps (writable ps passed).parents)
 

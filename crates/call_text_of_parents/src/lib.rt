@@ -2,12 +2,12 @@
 #![tactic(auto)]
 
 ghost use Rattle.std.specs.Prelude.{◌≡◌};
-ghost use Rattle.meaning.specs.Answers.{came_to};
+ghost use Rattle.meaning.specs.Answers.{answer_of, came_to};
 ghost use Rattle.calls.specs.Calls.{text_of_parents};
 
-use meaning::{Answer, NO_ROOM, TOO_DEEP, Verdict};
+use meaning::{Answer, NO_ROOM, Refusal, TOO_DEEP};
 use parents_check::parents_refusal;
-use table_answers::{done, refuse};
+use table_answers::{answered, done, refuse};
 use text_levels::find_levels;
 use text_write::write_brackets;
 
@@ -15,22 +15,22 @@ use text_write::write_brackets;
 pub fn text_of_parents(parents: &[u32], text: &mut [u8]) -> Answer
     ensures { came_to result text.new ≡ text_of_parents parents.now text.old }
 {
-    let verdict = parents_refusal(parents);
-    match verdict {
-        Verdict::Refused(refusal) => refuse(refusal.code, refusal.place),
-        Verdict::Passed => {
-            let nodes = parents.len();
-            let mut levels: [u32; 66] = [nodes as u32; 66];
-            let deep = find_levels(parents, &mut levels);
-            if deep != 0 {
-                return refuse(TOO_DEEP, deep);
-            }
-            let bytes = 2 * nodes;
-            if text.len() < bytes {
-                return refuse(NO_ROOM, 0);
-            }
-            write_brackets(parents, &mut levels, text);
-            done(bytes as u32, 0)
-        }
+    answered(try_text_of_parents(parents, text))
+}
+
+fn try_text_of_parents(parents: &[u32], text: &mut [u8]) -> Result<Answer, Refusal>
+    ensures { came_to (answer_of result) text.new ≡ text_of_parents parents.now text.old }
+{
+    parents_refusal(parents)?;
+    let nodes = parents.len();
+    let mut levels: [u32; 66] = [nodes as u32; 66];
+    if let Some(deep) = find_levels(parents, &mut levels) {
+        return refuse(TOO_DEEP, deep);
     }
+    let bytes = 2 * nodes;
+    if text.len() < bytes {
+        return refuse(NO_ROOM, 0);
+    }
+    write_brackets(parents, &mut levels, text);
+    Ok(done(bytes as u32, 0))
 }

@@ -14,8 +14,10 @@ use cases_show::Digest;
 use meaning::Answer;
 use std::io;
 use std::io::Read;
-use std::num::wrapping_add_u32;
 
+// Tree, metres and bytes go as three slices. Tried: one struct of them, borrowed. No proof: the
+// bytes are written while the others are read, and a field behind a reference that is read while
+// another is lent has no rule yet.
 fn call_bytes(
     word: Word,
     numbers: &[u32],
@@ -73,10 +75,8 @@ fn make(
 
 // Has every question ask about one node.
 fn name_node(asked: &mut [i32], node: i32) {
-    let mut at: usize = 1;
-    while at < asked.len() {
-        asked[at] = node;
-        at += 3;
+    for question in asked.chunks_exact_mut(3) {
+        question[1] = node;
     }
 }
 
@@ -91,14 +91,10 @@ fn after_answers(before: Digest, image: &[u8], asked: &[i32]) -> Digest {
 //                                     sum
 fn nodes(rt: &impl Print, numbers: &[u32], image: &[u8]) -> io::Result<()> {
     let mut asked = [0i32; 78];
-    let mut d = Digest {
-        nines: 0,
-        s: 0,
-        t: 0,
-    };
+    let mut d = Digest::default();
     cases_script::put_signed(numbers, 3, &mut asked);
     for i in 0..number(numbers, 2) {
-        name_node(&mut asked, signed(wrapping_add_u32(number(numbers, 1), i)));
+        name_node(&mut asked, signed(number(numbers, 1).wrapping_add(i)));
         d = after_answers(d, image, &asked);
     }
     cases_show::summed(rt, d)

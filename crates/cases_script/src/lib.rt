@@ -10,7 +10,6 @@ mod words;
 ghost use Rattle.std.specs.Prelude.{◌<◌, ◌≤◌, length};
 
 pub use material::{alter, plant};
-use std::num::wrapping_sub_u32;
 pub use words::{Word, word_of};
 
 // The first place, from `at` on, that holds this byte, or the end.
@@ -37,29 +36,28 @@ pub fn line_end(text: &[u8], at: usize) -> usize
 
 // One more digit after a number: its value is its lowest four bits.
 fn with_digit(value: u32, x: u8) -> u32 {
-    ((value as u64 * 10 + (x % 16) as u64) % 0x100000000) as u32
+    value.wrapping_mul(10).wrapping_add(u32::from(x % 16))
 }
 
 // The number whose digits begin at `at` and go on up to a byte below them, as a space or a line
 // end.
 fn digits_at(line: &[u8], at: usize) -> u32 {
     let mut value: u32 = 0;
-    for i in at..line.len() {
-        if line[i] < b'0' {
+    for x in line.iter().skip(at) {
+        if *x < b'0' {
             return value;
         }
-        value = with_digit(value, line[i]);
+        value = with_digit(value, *x);
     }
     value
 }
 
 fn number_at(line: &[u8], at: usize) -> u32 {
-    if at < line.len() {
-        if line[at] == b'-' {
-            return wrapping_sub_u32(0, digits_at(line, at + 1));
-        }
+    if line.get(at) == Some(&b'-') {
+        digits_at(line, at + 1).wrapping_neg()
+    } else {
+        digits_at(line, at)
     }
-    digits_at(line, at)
 }
 
 // Writes the numbers of a line, as many as the list holds; answers how many.
@@ -67,63 +65,47 @@ pub fn numbers_of(line: &[u8], list: &mut [u32]) -> usize
     ensures { result ≤ length list.new }
 {
     let mut at = find(line, 0, b' ');
-    let mut count: usize = 0;
-    while at < line.len() {
-        if list.len() <= count {
+    for count in 0..list.len() {
+        if line.len() <= at {
             return count;
         }
         list[count] = number_at(line, at + 1);
-        count += 1;
         at = find(line, at + 1, b' ');
     }
-    count
+    list.len()
 }
 
 // Number i, from 0.
 pub fn number(numbers: &[u32], i: usize) -> u32 {
-    if i < numbers.len() { numbers[i] } else { 0 }
+    numbers.get(i).copied().unwrap_or(0)
 }
 
 // Number i, from 0, as a count: one below 0 is as far below 2^64.
 pub fn size(numbers: &[u32], i: usize) -> usize {
-    let x = number(numbers, i);
-    if x < 2147483648 {
-        x as usize
-    } else {
-        x as usize + 18446744069414584320
-    }
+    (signed(number(numbers, i)) as isize).cast_unsigned()
 }
 
 // Number i, from 0, as a count, cut to what there is.
 pub fn room(numbers: &[u32], i: usize, most: usize) -> usize
     ensures { result ≤ most }
 {
-    let x = size(numbers, i);
-    if x < most { x } else { most }
+    size(numbers, i).min(most)
 }
 
 // The signed number of these 32 bits.
 pub fn signed(x: u32) -> i32 {
-    if x < 2147483648 {
-        x as i32
-    } else {
-        !((4294967295 - x) as i32)
-    }
+    x.cast_signed()
 }
 
 // Writes the numbers as bytes, as many as the list holds; answers how many.
 pub fn put_bytes(numbers: &[u32], list: &mut [u8]) -> usize
     ensures { result ≤ length list.new }
 {
-    let mut i: usize = 0;
-    while i < numbers.len() {
-        if list.len() <= i {
-            return i;
-        }
-        list[i] = (numbers[i] % 256) as u8;
-        i += 1;
+    let count = numbers.len().min(list.len());
+    for (entry, x) in list.iter_mut().zip(numbers) {
+        *entry = (*x % 256) as u8;
     }
-    i
+    count
 }
 
 // Writes the numbers after the first so many as signed ones, as many as the list holds; answers how
@@ -131,15 +113,9 @@ pub fn put_bytes(numbers: &[u32], list: &mut [u8]) -> usize
 pub fn put_signed(numbers: &[u32], skip: usize, list: &mut [i32]) -> usize
     ensures { result ≤ length list.new }
 {
-    let mut at = skip;
-    let mut count: usize = 0;
-    while at < numbers.len() {
-        if list.len() <= count {
-            return count;
-        }
-        list[count] = signed(numbers[at]);
-        count += 1;
-        at += 1;
+    let count = numbers.len().saturating_sub(skip).min(list.len());
+    for (entry, x) in list.iter_mut().zip(numbers.iter().skip(skip)) {
+        *entry = signed(*x);
     }
     count
 }

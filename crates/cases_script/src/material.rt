@@ -2,7 +2,6 @@
 // a pack, an image or a text).
 use crate::words::Word;
 use crate::{number, put_bytes, room, size};
-use std::num::wrapping_add_u32;
 
 // How much greater the parent of a node is than that of the node before it, in the mixed tree: less
 // than 1 on the average, so that the tree is not deep.
@@ -10,10 +9,6 @@ const STEPS: [u32; 8] = [0, 0, 0, 0, 1, 0, 2, 3];
 
 fn low(x: usize) -> u32 {
     (x % 0x100000000) as u32
-}
-
-fn least(x: u32, most: u32) -> u32 {
-    if x < most { x } else { most }
 }
 
 // The parent of the node that has i nodes before it, in a tree of so many branches side by side
@@ -24,9 +19,9 @@ fn branched(i: u32, branches: u32, both: u32) -> u32 {
         return i;
     }
     if branches < i {
-        return wrapping_add_u32(i - branches, 1);
+        return (i - branches).wrapping_add(1);
     }
-    least(i, 1)
+    i.min(1)
 }
 
 // The parent of the node that has i nodes before it, in the mixed tree, where p is the parent of
@@ -44,16 +39,12 @@ fn mixed(i: u32, p: u32, seed: usize) -> u32 {
             return p;
         }
     }
-    least(wrapping_add_u32(p, STEPS[seed % 8]), i)
+    p.wrapping_add(STEPS[seed % 8]).min(i)
 }
 
 // The metres of the node that has i nodes before it, where p is those of the node before.
 fn risen(i: usize, p: u32, first: u32, step: u32) -> u32 {
-    if i == 0 {
-        first
-    } else {
-        wrapping_add_u32(p, step)
-    }
+    if i == 0 { first } else { p.wrapping_add(step) }
 }
 
 // The parent or the metres of the node that has i nodes before it, where p is that of the node
@@ -68,7 +59,7 @@ fn risen(i: usize, p: u32, first: u32, step: u32) -> u32 {
 fn planted(word: Word, numbers: &[u32], i: usize, p: u32, seed: usize) -> u32 {
     match word {
         Word::Parents | Word::Metres => number(numbers, i),
-        Word::Grow => least(low(i), number(numbers, 0)),
+        Word::Grow => low(i).min(number(numbers, 0)),
         Word::Branches => branched(low(i), number(numbers, 0), number(numbers, 1)),
         Word::Mixed => mixed(low(i), p, seed),
         _ => risen(i, p, number(numbers, 0), number(numbers, 1)),
@@ -83,33 +74,27 @@ fn stirred(seed: usize) -> usize {
 pub fn plant(word: Word, numbers: &[u32], list: &mut [u32]) {
     let mut p: u32 = 0;
     let mut seed: usize = 1;
-    for i in 0..list.len() {
+    for (i, entry) in list.iter_mut().enumerate() {
         p = planted(word, numbers, i, p, seed);
-        list[i] = p;
+        *entry = p;
         seed = stirred(seed);
     }
 }
 
-fn fill(bytes: &mut [u8], from: usize, x: u8) {
-    for i in from..bytes.len() {
-        bytes[i] = x;
-    }
-}
-
 fn hold(numbers: &[u32], bytes: &mut [u8]) {
-    fill(bytes, 0, 9);
+    bytes.fill(9);
     put_bytes(numbers, bytes);
 }
 
 fn clear(numbers: &[u32], bytes: &mut [u8]) {
-    fill(bytes, 0, 9);
-    fill(bytes, size(numbers, 1), 0);
+    let end = room(numbers, 1, bytes.len());
+    bytes[..end].fill(9);
+    bytes[end..].fill(0);
 }
 
 fn flip(numbers: &[u32], bytes: &mut [u8]) {
-    let at = size(numbers, 0);
-    if at < bytes.len() {
-        bytes[at] = bytes[at] ^ (number(numbers, 1) % 256) as u8;
+    if let Some(byte) = bytes.get_mut(size(numbers, 0)) {
+        *byte ^= (number(numbers, 1) % 256) as u8;
     }
 }
 
@@ -124,7 +109,7 @@ fn reseal(numbers: &[u32], bytes: &mut [u8]) {
 fn pad(numbers: &[u32], bytes: &mut [u8]) {
     let end = room(numbers, 0, bytes.len());
     let from = room(numbers, 1, end);
-    fill(&mut bytes[0..end], from, (number(numbers, 2) % 256) as u8);
+    bytes[from..end].fill((number(numbers, 2) % 256) as u8);
 }
 
 // hold BYTE..              these bytes, and 9s after them

@@ -3,22 +3,17 @@
 
 use meaning::Answer;
 use std::io;
-use std::num::wrapping_add_u32;
 
 // The longest list that is shown entry by entry.
 const MOST_SHOWN: usize = 300;
 
 // How many of some numbers are 9, and two sums, made as those of a block are made of its words:
 // they are shown for a long list.
-#[derive(Clone, Copy)]
+#[derive(Clone, Copy, Default)]
 pub struct Digest {
     pub nines: u32,
     pub s: u32,
     pub t: u32,
-}
-
-fn byte(x: u8) -> u32 {
-    x as u32
 }
 
 fn number(rt: &impl Print, x: u32) -> io::Result<()> {
@@ -48,89 +43,49 @@ pub fn summed(rt: &impl Print, d: Digest) -> io::Result<()> {
 }
 
 fn after(d: Digest, x: u32) -> Digest {
-    let s = wrapping_add_u32(d.s, x);
-    let t = wrapping_add_u32(d.t, s);
-    let more = if x == 9 { 1 } else { 0 };
+    let s = d.s.wrapping_add(x);
     Digest {
-        nines: wrapping_add_u32(d.nines, more),
+        nines: d.nines.wrapping_add(u32::from(x == 9)),
         s,
-        t,
+        t: d.t.wrapping_add(s),
     }
 }
 
 // The numbers so far, and those of a further list.
-pub fn after_words(before: Digest, list: &[u32]) -> Digest {
+pub fn after_words<T: Copy + Into<u32>>(before: Digest, list: &[T]) -> Digest {
     let mut d = before;
-    for i in 0..list.len() {
-        d = after(d, list[i]);
+    for x in list {
+        d = after(d, (*x).into());
     }
     d
 }
 
-fn after_bytes(before: Digest, list: &[u8]) -> Digest {
-    let mut d = before;
-    for i in 0..list.len() {
-        d = after(d, byte(list[i]));
+fn shown<T: Copy + Into<u32>>(rt: &impl Print, name: &[u8], list: &[T]) -> io::Result<()> {
+    if MOST_SHOWN < list.len() {
+        return summed(rt, after_words(Digest::default(), list));
     }
-    d
+    rt.write_all(name)?;
+    for x in list {
+        number(rt, (*x).into())?;
+    }
+    end(rt)
 }
 
 // A lent list of numbers, as it is now.
 pub fn words(rt: &impl Print, list: &[u32]) -> io::Result<()> {
-    if MOST_SHOWN < list.len() {
-        return summed(
-            rt,
-            after_words(
-                Digest {
-                    nines: 0,
-                    s: 0,
-                    t: 0,
-                },
-                list,
-            ),
-        );
-    }
-    rt.write_all(b"  list")?;
-    for i in 0..list.len() {
-        number(rt, list[i])?;
-    }
-    end(rt)
+    shown(rt, b"  list", list)
 }
 
 // A lent buffer, as it is now.
 pub fn bytes(rt: &impl Print, list: &[u8]) -> io::Result<()> {
-    if MOST_SHOWN < list.len() {
-        return summed(
-            rt,
-            after_bytes(
-                Digest {
-                    nines: 0,
-                    s: 0,
-                    t: 0,
-                },
-                list,
-            ),
-        );
-    }
-    rt.write_all(b"  bytes")?;
-    for i in 0..list.len() {
-        number(rt, byte(list[i]))?;
-    }
-    end(rt)
+    shown(rt, b"  bytes", list)
 }
 
 // How many entries of a list are at the same places of another.
 pub fn equal(rt: &impl Print, a: &[u32], b: &[u32]) -> io::Result<()> {
     let mut k: u32 = 0;
-    let mut i: usize = 0;
-    while i < a.len() {
-        if b.len() <= i {
-            break;
-        }
-        if a[i] == b[i] {
-            k = wrapping_add_u32(k, 1);
-        }
-        i += 1;
+    for (x, y) in a.iter().zip(b) {
+        k = k.wrapping_add(u32::from(x == y));
     }
     rt.write_all(b"  equal")?;
     number(rt, k)?;

@@ -1,12 +1,11 @@
--- The samples of a piece, one after another, and where the next one is.
-use mathlib.Core.Path.{◌≡◌, ap, ◌∙◌}
+-- The samples of a piece, one after another.
+use mathlib.Core.Path.{◌≡◌}
 use mathlib.Core.List.{List}
-use Prim.Native.Nat.{ℕ, ◌+◌, ◌-◌, ◌*◌, ◌/◌, ◌%◌, ◌≤◌, ◌<◌}
-use native.Mathlib.Decide.{dec_lt}
+use Prim.Native.Nat.{ℕ, ◌+◌, ◌-◌, ◌*◌, ◌/◌, ◌≤◌, ◌<◌}
 use native.Mathlib.Omega.{arith}
 use Rattle.meaning.specs.Strings.{I, ones}
 use Rattle.meaning.specs.Bytes.{bit_at, bits_from}
-use Rattle.theory.specs.Layout.{sample_place, sample_in}
+use Rattle.theory.specs.Layout.{sample_in}
 use Rattle.bits_count.proofs.Runs.{bits_mono}
 use Rattle.check_sample.specs.Words.{NamesOne}
 use Rattle.check_sample.proofs.Naming.{one_more}
@@ -22,12 +21,6 @@ module _ (bytes : List ℕ) (from at n first k : ℕ) where
   pub number-named : (s : ℕ) → k ≤ 64 * s → NamesOne bytes at n first (64 * s + 1 - k) (sample_in bytes from s) → NumberSampled bytes from at n first k s
   number-named s h all p l e c = all p l e (omega arith)
 
-  pub piece_named : (s : ℕ) → k ≤ 64 * s → PieceSampled bytes from at n first k → NamesOne bytes at n first (64 * s + 1 - k) (sample_in bytes from s)
-  piece_named s h all p l e c =
-      let z = k + ones (bits_from bytes (8 * at) p) in
-      let which : s ≡ z / 64 = omega arith in
-      ap (sample_in bytes from) which ∙ all p l e (omega arith)
-
   -- the samples before the piece
   pub none_before : (s : ℕ) → s < (k + 63) / 64 → NumberSampled bytes from at n first k s
   none_before s h p l e c = absurd (omega arith)
@@ -39,31 +32,3 @@ module _ (bytes : List ℕ) (from at n first k : ℕ) where
       let inside = bits_mono bytes (8 * at) (p + 1) n (omega arith) in
       let z = k + ones (bits_from bytes (8 * at) p) in
       all (z / 64) (omega arith) p l e (omega arith)
-
--- where the next one is
-module _ (from s : ℕ) where
-  column : sample_place from s % 512 ≡ 4 * (s % 126)
-  column = go (from + s / 126) (s % 126) (omega arith)
-    where
-      go : (x r : ℕ) → r < 126 → (512 * x + 4 * r) % 512 ≡ 4 * r
-      go x r h = omega arith
-
-  pub next-block : sample_place from s % 512 ≡ 500 → sample_place from s + 12 ≡ sample_place from (s + 1)
-  next-block e =
-      let r : s % 126 ≡ 125 = omega (arith, column) in
-      let d : (s + 1) / 126 ≡ s / 126 + 1 = omega arith in
-      let z : (s + 1) % 126 ≡ 0 = omega arith in
-      omega arith
-
-  pub next_column : (sample_place from s % 512 ≡ 500 → ⊥) → sample_place from s + 4 ≡ sample_place from (s + 1)
-  next_column e =
-      let r : s % 126 < 125 = lt_of_ne (λ f. e (column ∙ (let g : 4 * (s % 126) ≡ 500 = omega arith in g))) in
-      let d : (s + 1) / 126 ≡ s / 126 = omega arith in
-      let z : (s + 1) % 126 ≡ s % 126 + 1 = omega arith in
-      omega arith
-    where
-      lt_of_ne : (s % 126 ≡ 125 → ⊥) → s % 126 < 125
-      lt_of_ne f = elim (dec_lt (s % 126) 125) [
-        | yes h ↦ h
-        | no h ↦ absurd (f (omega arith))
-      ]

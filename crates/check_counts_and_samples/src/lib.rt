@@ -51,14 +51,13 @@ fn each_sampled(
     requires counts_before { CountsBefore b.now piece.at table.now }
     ensures { Decides result (PieceSampled b.now samples piece.at (bits_in piece) piece.first k) }
 {
-    let mut s = (k + 63) / 64;
-    let mut p = sample_at(samples, s);
-    while 64 * s < end {
+    let passed = (k + 63) / 64;
+    let mut p = sample_at(samples, passed);
+    for s in passed..(end + 63) / 64 {
         if !sample_right(b, p, piece, 64 * s + 1 - k, table) {
             return false;
         }
         p = next_sample(p);
-        s += 1;
     }
     true
 }
@@ -120,8 +119,7 @@ pub fn blocks_right(b: &[u8], samples: usize, m: u32, bits_block: usize, n: usiz
     ensures { FrontRight b.now samples m bits_block n result }
 {
     let last = last_block(n);
-    let mut j: usize = 0;
-    while j < last {
+    for j in 0..last {
         // the next block has the number of ones up to the end of this one
         let end = word(b, 512 * (bits_block + j + 1));
         if m < end {
@@ -130,9 +128,8 @@ pub fn blocks_right(b: &[u8], samples: usize, m: u32, bits_block: usize, n: usiz
         if !full_block_right(b, samples, bits_block, j, end as usize) {
             return j;
         }
-        j += 1;
     }
-    j
+    last
 }
 
 // Of a string of n bits with m ones: do its blocks count right, and are the samples right of the

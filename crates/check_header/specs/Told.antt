@@ -1,9 +1,8 @@
 -- What reading the header tells.
-use Rattle.std.specs.Prelude.{◌≡◌, List, ℕ, ◌≤◌}
+use Rattle.std.specs.Prelude.{Some, None, Option, ◌≡◌, List, ℕ, ◌≤◌}
 use Rattle.theory.specs.Stages.{Header}
 use Rattle.image_layout.specs.Layout.{layout_in}
-use Rattle.check_header.specs.declared.HeaderFound.{HeaderFound}
-use Rattle.check_header.specs.declared.HeaderFound.TheVariants.{Right, Wrong}
+use Rattle.image_layout.specs.declared.Layout.{Layout}
 
 -- some tree of n nodes has m runs of ones
 pub record RunsFit (n m : ℕ) : Type 0 where
@@ -12,6 +11,6 @@ pub record RunsFit (n m : ℕ) : Type 0 where
   pub two : 2 ≤ n → 2 ≤ m
 
 -- the header is right, and this is the layout that its version, n and m give; or it is wrong
-abbrev pub HeaderIs : HeaderFound → List ℕ → Type 0
-HeaderIs (Right layout) bytes = Header bytes × (layout ≡ layout_in bytes)
-HeaderIs Wrong bytes = Header bytes → ⊥
+abbrev pub HeaderIs : Option Layout → List ℕ → Type 0
+HeaderIs (Some layout) bytes = Header bytes × (layout ≡ layout_in bytes)
+HeaderIs None bytes = Header bytes → ⊥

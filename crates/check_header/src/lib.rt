@@ -27,14 +27,6 @@ pub fn version_known(b: &[u8]) -> bool
     true
 }
 
-// What block 0 says after its version: the layout of an image with right numbers and reserved
-// words, or that it is wrong.
-#[derive(Clone, Copy)]
-pub enum HeaderFound {
-    Right(Layout),
-    Wrong,
-}
-
 // Has a tree of n nodes m runs of ones? One node has one; of more nodes the first and the last bit
 // of R1 end two.
 fn runs_fit(n: usize, m: usize) -> bool
@@ -53,8 +45,9 @@ fn runs_fit(n: usize, m: usize) -> bool
     m == 1
 }
 
-// Reads block 0 of an image of so many blocks: n, m, the number of blocks, and zeros after them.
-pub fn read_header(b: &[u8], blocks: usize) -> HeaderFound
+// Reads block 0 of an image of so many blocks after its version: the layout, if n, m and the number
+// of blocks are right, and zeros come after them.
+pub fn read_header(b: &[u8], blocks: usize) -> Option<Layout>
     requires b_len { length b.now ≡ 512 * blocks }
     requires le_blocks { 1 ≤ blocks }
     requires blocks_le_most_block { blocks ≤ most_block }
@@ -63,24 +56,24 @@ pub fn read_header(b: &[u8], blocks: usize) -> HeaderFound
     let n = word(b, 4) as usize;
     let m = word(b, 8) as usize;
     if n < 1 {
-        return HeaderFound::Wrong;
+        return None;
     }
     if MOST_NODES < n {
-        return HeaderFound::Wrong;
+        return None;
     }
     if !runs_fit(n, m) {
-        return HeaderFound::Wrong;
+        return None;
     }
     if word(b, 12) as usize != blocks {
-        return HeaderFound::Wrong;
+        return None;
     }
     let layout = layout_of(word(b, 0), n, m);
     if layout.blocks as usize != blocks {
-        return HeaderFound::Wrong;
+        return None;
     }
     // words 4 to 125 are reserved
     if !all_zero(b, 16, 504) {
-        return HeaderFound::Wrong;
+        return None;
     }
-    HeaderFound::Right(layout)
+    Some(layout)
 }

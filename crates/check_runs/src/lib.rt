@@ -32,8 +32,8 @@ fn words_in_step(b: &[u8], at1: usize, at0: usize, n: usize, ones1: usize, ones0
 {
     let mut before1 = ones1;
     let mut before0 = ones0;
-    let mut i: usize = 0;
-    while i + 8 <= n / 8 {
+    for w in 0..n / 64 {
+        let i = 8 * w;
         let more = ones_without(b, at1 + i, at0 + i) as usize;
         if !word_in_step(b, at1 + i, at0 + i, before1, before0, more) {
             return false;
@@ -41,9 +41,9 @@ fn words_in_step(b: &[u8], at1: usize, at0: usize, n: usize, ones1: usize, ones0
         // the ones that both have are left out of both counts
         before1 += more;
         before0 += ones_without(b, at0 + i, at1 + i) as usize;
-        i += 8;
     }
-    bytes_in_step(b, at1 + i, at0 + i, n - 8 * i, before1, before0)
+    let i = 8 * (n / 64);
+    bytes_in_step(b, at1 + i, at0 + i, n % 64, before1, before0)
 }
 
 // Is R1 in step with R0, whose blocks begin at block `zeros`, in the first n bits of their blocks
@@ -114,12 +114,10 @@ pub fn in_step(b: &[u8], layout: Layout) -> bool
         return false;
     }
     let last = last_block(n);
-    let mut j: usize = 0;
-    while j < last {
+    for j in 0..last {
         if !full_block_in_step(b, layout, j) {
             return false;
         }
-        j += 1;
     }
     let ones1 = word(b, 512 * (1 + last));
     let ones0 = word(b, 512 * (zeros + last));

@@ -29,13 +29,11 @@ pub fn samples_ahead(b: &[u8], layout: Layout, before: usize, end: usize, by: us
     if m <= 64 * (to + by - 1) {
         return false;
     }
-    let mut s = (before - 1) / 64;
-    while s < to {
+    for s in ((before - 1) / 64..to).step_by(by) {
         let own = word(b, sample_at(samples1, s));
         if own < word(b, sample_at(samples0, s + by)) {
             return false;
         }
-        s += by;
     }
     true
 }

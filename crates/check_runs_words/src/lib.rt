@@ -24,14 +24,12 @@ fn bits_in_step(b: &[u8], at1: usize, at0: usize, n: usize, ones1: usize, ones0:
 {
     let mut before1 = ones1;
     let mut before0 = ones0;
-    let mut i: usize = 0;
-    while i < n {
+    for i in 0..n {
         if before0 < before1 {
             return false;
         }
         before1 += bit_at(b, 8 * at1 + i) as usize;
         before0 += bit_at(b, 8 * at0 + i) as usize;
-        i += 1;
     }
     true
 }
@@ -67,17 +65,15 @@ pub fn bytes_in_step(b: &[u8], at1: usize, at0: usize, n: usize, ones1: usize, o
 {
     let mut before1 = ones1;
     let mut before0 = ones0;
-    let mut i: usize = 0;
-    while i < n / 8 {
+    for i in 0..n / 8 {
         let more = ones_in_byte(b[at1 + i]) as usize;
         if !byte_in_step(b, at1 + i, at0 + i, before1, before0, more) {
             return false;
         }
         before1 += more;
         before0 += ones_in_byte(b[at0 + i]) as usize;
-        i += 1;
     }
-    bits_in_step(b, at1 + i, at0 + i, n - 8 * i, before1, before0)
+    bits_in_step(b, at1 + n / 8, at0 + n / 8, n % 8, before1, before0)
 }
 
 // Of eight bytes of R1 from `at1` on, which `ones1` ones come before, and eight of R0 from `at0`

@@ -17,7 +17,7 @@ Summed t table sum w =
     (length table ≡ 63) × (sum ≡ sum_to t w) × (sum ≤ 64 * w) × ((q : ℕ) → q < w → get_or table q 0 ≡ sum_to t q) × ((q : ℕ) → w ≤ q → get_or table q 0 ≡ get_or t q 0)
 
 module _ (t : List ℕ) (few : (w : ℕ) → w < 63 → get_or t w 0 ≤ 64) (table : List ℕ) (sum w : ℕ) (h : w < 63) (s : Summed t table sum w) where
-  pub summed-few : get_or table w 0 ≤ 64
+  summed-few : get_or table w 0 ≤ 64
   summed-few = omega (arith, s.4 w (omega arith), few w h)
 
   pub summed_more : (next : List ℕ) (r : ℕ) → next ≡ set table w sum → r ≡ sum + get_or table w 0 → Summed t next r (w + 1)

@@ -15,10 +15,8 @@ pub fn count_words(b: &[u8], at: usize, table: &mut [u32; 63])
     ensures table_len_2 { length table.new ≡ 63 }
     ensures word_counts { WordCounts b.now at table.new }
 {
-    let mut w: usize = 0;
-    while w < 63 {
+    for w in 0..63 {
         table[w] = ones_in_word(b, at + 8 * w);
-        w += 1;
     }
 }
 
@@ -44,11 +42,9 @@ pub fn add_up(table: &mut [u32; 63])
     ensures { (w : ℕ) → w < 63 → get_or table.new w 0 ≡ sum_to table.old w }
 {
     let mut sum: u32 = 0;
-    let mut w: usize = 0;
-    while w < 63 {
-        sum = put_before(table, w, sum);
-        sum = put_before(table, w + 1, sum);
-        sum = put_before(table, w + 2, sum);
-        w += 3;
+    for turn in 0..21 {
+        sum = put_before(table, 3 * turn, sum);
+        sum = put_before(table, 3 * turn + 1, sum);
+        sum = put_before(table, 3 * turn + 2, sum);
     }
 }

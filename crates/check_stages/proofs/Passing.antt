@@ -1,5 +1,6 @@
 -- All stages, from those of the header and those after it.
-use mathlib.Core.Path.{◌≡◌, sym, ap, subst}
+use Rattle.std.specs.Prelude.{None, Some}
+use mathlib.Core.Path.{◌≡◌, sym, subst}
 use mathlib.Core.Bool.{Bool, true, false, cond}
 use mathlib.Core.List.{List}
 use Prim.Native.Nat.{ℕ, ◌+◌, ◌*◌, ◌≤◌, ◌<◌}
@@ -8,12 +9,11 @@ use lib.Dec.{eqb}
 use lib.ListN.{length}
 use Rattle.theory.specs.Stages.{Known, Header, Stages, version_in, nodes_of, runs_of, word_blocks, metres_block}
 use Rattle.theory.specs.Faults.{RestKept}
-use Rattle.image_layout.specs.declared.MetresAt.TheVariants.{Nowhere, From}
 use Rattle.image_layout.specs.declared.Layout.{Layout}
 use Rattle.image_layout.specs.Layout.{layout_in}
 use Rattle.image_layout.specs.Fits.{MetresFit, LaidOut}
 use Rattle.check_metres.specs.Ends.{MetresEnded}
-use Rattle.check_stages.specs.Passes.{StringsPass, StagesPass}
+use Rattle.check_stages.specs.Passes.{StagesPass}
 
 module _ (bytes : List ℕ) (layout : Layout) (laid : layout ≡ layout_in bytes) where
   abbrev n : ℕ
@@ -35,7 +35,7 @@ module _ (bytes : List ℕ) (layout : Layout) (laid : layout ≡ layout_in bytes
     small = omega arith;
   })
     where
-      metres_fit : (t : Bool) → 512 * (block + word_blocks (cond t n 0)) ≤ length bytes → MetresFit bytes (cond t (From block) Nowhere) n
+      metres_fit : (t : Bool) → 512 * (block + word_blocks (cond t n 0)) ≤ length bytes → MetresFit bytes (cond t (Some block) None) n
       metres_fit true room = room
       metres_fit false room = tt
 
@@ -56,7 +56,7 @@ module _ (bytes : List ℕ) (layout : Layout) (laid : layout ≡ layout_in bytes
         metres_end = ended (eqb (version_in bytes) 2) q.metres;
       }
     where
-      ended : (t : Bool) → MetresEnded bytes (cond t (From block) Nowhere) n → (j : ℕ) → j < word_blocks (cond t n 0) → RestKept bytes block (cond t n 0) j
+      ended : (t : Bool) → MetresEnded bytes (cond t (Some block) None) n → (j : ℕ) → j < word_blocks (cond t n 0) → RestKept bytes block (cond t n 0) j
       ended true e = e
       ended false e = λ j h. absurd (omega arith)
 
@@ -72,6 +72,6 @@ module _ (bytes : List ℕ) (layout : Layout) (laid : layout ≡ layout_in bytes
     metres = ended (eqb (version_in bytes) 2) s.metres_end;
   })
     where
-      ended : (t : Bool) → ((j : ℕ) → j < word_blocks (cond t n 0) → RestKept bytes block (cond t n 0) j) → MetresEnded bytes (cond t (From block) Nowhere) n
+      ended : (t : Bool) → ((j : ℕ) → j < word_blocks (cond t n 0) → RestKept bytes block (cond t n 0) j) → MetresEnded bytes (cond t (Some block) None) n
       ended true e = e
       ended false e = tt

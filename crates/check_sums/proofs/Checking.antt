@@ -6,7 +6,7 @@ use mathlib.Core.List.{List, [], ◌∷◌, ◌++◌}
 use Prim.Native.Nat.{ℕ, zero, suc, ◌+◌, ◌-◌, ◌*◌, ◌^◌, ◌≤◌, ◌<◌}
 use native.Mathlib.Numerals.{add-one}
 use native.Mathlib.Omega.{arith}
-use borrow.Author.Tests.{eqb-true, eq-eqb}
+use borrow.Author.Tests.{eqb-true, eq-eqb, le-ltb, lt-ltb}
 use lib.Dec.{eqb}
 use lib.ListN.{length, get_or, take, drop, length-drop, take-append-drop}
 use lib.Seq.{length-take-le, take-take, drop-drop}
@@ -15,6 +15,9 @@ use Rattle.theory.specs.Layout.{AreBytes, word_at}
 use Rattle.theory.proofs.Digits.{take_bytes, drop_bytes, words_bytes, word_at-append, word_at-take, word_at-drop, word_bytes-at, same-words}
 use Rattle.theory.proofs.Sealing.{same-eq, same_refl}
 use Rattle.seal_sums.specs.Sealed.{payload, right_at}
+use Rattle.std.specs.Prelude.{Option, Some, None}
+use Rattle.std.specs.Option.{MatchOption}
+use Rattle.check_sums.specs.Wrong.{wrong_if_any}
 
 -- ---- tests
 
@@ -93,11 +96,11 @@ module _ (bytes : List ℕ) (i s t : ℕ) (room : 512 * i + 512 ≤ length bytes
 -- ---- the blocks in order
 
 -- the lowest wrong block from block i on
-unfoldable pub wrong_after : List ℕ → ℕ → ℕ → ℕ
+wrong_after : List ℕ → ℕ → ℕ → ℕ
 wrong_after bytes blocks i = wrong_from sum_start (cut (blocks - i) 512 (drop (512 * i) bytes)) i
 
 module _ (bytes : List ℕ) (blocks : ℕ) where
-  pub wrong_all : length bytes ≡ 512 * blocks → wrong_after bytes blocks 0 ≡ wrong_block bytes
+  wrong_all : length bytes ≡ 512 * blocks → wrong_after bytes blocks 0 ≡ wrong_block bytes
   unfolding wrong_after wrong_block
   wrong_all h = ap (λ k. wrong_from sum_start (cut k 512 bytes) 0) (let e : blocks - 0 ≡ blocks_in bytes = omega arith in e)
 
@@ -110,12 +113,32 @@ module _ (bytes : List ℕ) (blocks : ℕ) where
       ∙ ap₂ (λ y n. cond (same (block i (take 504 (take 512 x))) (take 512 x)) (wrong_from sum_start (cut k 512 y) n) i)
       (drop-drop 512 (512 * i) bytes ∙ ap (λ n. drop n bytes) (let e : 512 * i + 512 ≡ 512 * (i + 1) = omega arith in e)) (sym (add-one i))
 
-  pub wrong_here : (i : ℕ) → i < blocks → right_at bytes i ≡ false → i ≡ wrong_after bytes blocks i
-  wrong_here i h e = sym (wrong_step i h ∙ ap (λ c. cond c (wrong_after bytes blocks (i + 1)) i) e)
+  wrong_here : (i : ℕ) → i < blocks → right_at bytes i ≡ false → wrong_after bytes blocks i ≡ i
+  wrong_here i h e = wrong_step i h ∙ ap (λ c. cond c (wrong_after bytes blocks (i + 1)) i) e
 
-  pub wrong_later : (i : ℕ) → i < blocks → right_at bytes i ≡ true → wrong_after bytes blocks (i + 1) ≡ wrong_after bytes blocks i
+  wrong_later : (i : ℕ) → i < blocks → right_at bytes i ≡ true → wrong_after bytes blocks (i + 1) ≡ wrong_after bytes blocks i
   wrong_later i h e = sym (wrong_step i h ∙ ap (λ c. cond c (wrong_after bytes blocks (i + 1)) i) e)
 
-  pub wrong_none : (i : ℕ) → i ≡ blocks → blocks ≡ wrong_after bytes blocks i
+  wrong_none : wrong_after bytes blocks blocks ≡ blocks
   unfolding wrong_after wrong_from cut
-  wrong_none i h = sym h ∙ ap (λ n. wrong_from sum_start (cut n 512 (drop (512 * i) bytes)) i) (let e : 0 ≡ blocks - i = omega arith in e)
+  wrong_none = ap (λ n. wrong_from sum_start (cut n 512 (drop (512 * blocks) bytes)) blocks) (let e : blocks - blocks ≡ 0 = omega arith in e)
+
+  module _ (size : length bytes ≡ 512 * blocks) where
+    -- after i right blocks
+    wrong_past : (i : ℕ) → i ≤ blocks → ((k : ℕ) → k < i → right_at bytes k ≡ true) → wrong_block bytes ≡ wrong_after bytes blocks i
+    wrong_past zero h all = sym (wrong_all size)
+    wrong_past (suc i) h all =
+        wrong_past i (omega arith) (λ k l. all k (omega arith))
+        ∙ sym (wrong_later i (omega arith) (all i (omega arith)))
+        ∙ ap (wrong_after bytes blocks) (add-one i)
+
+    -- what a search for the lowest wrong block finds
+    pub found : (r : Option ℕ)
+        → MatchOption r ((k : ℕ) → 0 ≤ k → k < blocks → right_at bytes k ≡ true)
+        (λ i. (0 ≤ i) × (i < blocks) × (right_at bytes i ≡ false) × ((k : ℕ) → 0 ≤ k → k < i → right_at bytes k ≡ true)) → r ≡ wrong_if_any bytes
+    found None all =
+        let e = wrong_past blocks (omega arith) (λ k l. all k (omega arith) l) ∙ wrong_none in
+        sym (ap (λ t. cond t (Some (wrong_block bytes)) None) (le-ltb (wrong_block bytes) (blocks_in bytes) (omega arith)))
+    found (Some i) here =
+        let e = wrong_past i (omega (arith, here.1)) (λ k l. here.3 k (omega arith) l) ∙ wrong_here i here.1 here.2 in
+        ap Some (sym e) ∙ sym (ap (λ t. cond t (Some (wrong_block bytes)) None) (lt-ltb (wrong_block bytes) (blocks_in bytes) (omega (arith, here.1))))

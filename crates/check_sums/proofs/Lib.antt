@@ -1,1 +1,2 @@
 pub mod Checking
+pub mod Wrong

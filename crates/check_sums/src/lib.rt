@@ -3,8 +3,8 @@
 
 ghost use Rattle.std.specs.Prelude.{◌≡◌, ◌+◌, ◌*◌, ◌≤◌, length};
 ghost use Rattle.theory.specs.Bounds.{most_block};
-ghost use Rattle.meaning.specs.Blocks.{wrong_block};
 ghost use Rattle.seal_sums.specs.Sealed.{right_at};
+ghost use Rattle.check_sums.specs.Wrong.{wrong_if_any};
 
 use image_sums::block_sums;
 use image_words::word;
@@ -22,18 +22,11 @@ fn sums_right(b: &[u8], i: usize) -> bool
     word(b, 512 * i + 508) == right.t
 }
 
-// The lowest block whose s or t is wrong, or `blocks` if there is none.
-pub fn wrong_block(b: &[u8], blocks: usize) -> usize
+// The lowest block whose s or t is wrong, if there is one.
+pub fn wrong_block(b: &[u8], blocks: usize) -> Option<usize>
     requires b_len { length b.now ≡ 512 * blocks }
     requires blocks_le_most_block { blocks ≤ most_block }
-    ensures { result ≡ wrong_block b.now }
+    ensures { result ≡ wrong_if_any b.now }
 {
-    let mut i = 0;
-    while i < blocks {
-        if !sums_right(b, i) {
-            return i;
-        }
-        i += 1;
-    }
-    blocks
+    (0..blocks).find(|i| !sums_right(b, *i))
 }

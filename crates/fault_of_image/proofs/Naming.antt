@@ -7,9 +7,12 @@ use native.Mathlib.Omega.{arith}
 use borrow.Author.Tests.{lt-ltb, le-ltb}
 use lib.Dec.{ltb}
 use lib.ListN.{length}
+use Rattle.std.specs.Prelude.{Option, Some, None, unwrap_or}
 use Rattle.meaning.specs.Faults.{are_strings, wrong_kept, wrong_sample}
 use Rattle.theory.specs.Layout.{AreBytes}
-use Rattle.theory.specs.Stages.{Header, nodes_of, runs_of}
+use Rattle.theory.specs.Places.{place_of}
+use Rattle.theory.proofs.Places.{no_place, the_place}
+use Rattle.theory.specs.Stages.{Header}
 use Rattle.theory.proofs.Faults.{strings_told, told_strings, strings_staged, staged_strings, kept-R1, kept-R0, rest_S1, rest_S0}
 use Rattle.image_layout.specs.declared.Layout.{Layout}
 use Rattle.image_layout.specs.Layout.{layout_in}
@@ -23,7 +26,7 @@ module _ (bytes : List ℕ) (layout : Layout) (are : AreBytes bytes) (is : layou
   long : 504 ≤ length bytes
   long = omega (arith, h.needed)
 
-  pub read : StringsGiven bytes layout → StringsGiven bytes (layout_in bytes)
+  read : StringsGiven bytes layout → StringsGiven bytes (layout_in bytes)
   read = subst (StringsGiven bytes) is
 
   strings_are : StringsGiven bytes layout → are_strings bytes ≡ true
@@ -38,9 +41,10 @@ module _ (bytes : List ℕ) (layout : Layout) (are : AreBytes bytes) (is : layou
           absurd (not-given (subst (StringsGiven bytes) (sym is) (record { ended1 = s.0; ended0 = s.1; in_step = s.2 })))
       go false e = e
 
-  pub all_but_samples : StringsGiven bytes layout → wrong_kept bytes ≡ 0 → AllButSamples bytes
-  all_but_samples given kept =
+  pub all_but_samples : StringsGiven bytes layout → place_of (wrong_kept bytes) ≡ None → AllButSamples bytes
+  all_but_samples given none =
       let g = read given in
+      let kept = no_place (wrong_kept bytes) none in
       record {
         ended1 = g.ended1;
         ended0 = g.ended0;
@@ -59,18 +63,20 @@ module _ (bytes : List ℕ) (layout : Layout) (are : AreBytes bytes) (is : layou
   unfolding fault_in
   fault_strings_lem wrong = sym (ap (λ t. cond t (kept-or (ltb 0 (wrong_kept bytes))) Strings) (strings_are_not wrong))
 
-  pub fault_counts_lem : StringsGiven bytes layout → (w : ℕ) → w ≡ wrong_kept bytes → (w ≡ 0 → ⊥) → Counts w ≡ fault_in bytes
+  pub fault_counts_lem : StringsGiven bytes layout → (block : ℕ) → Some block ≡ place_of (wrong_kept bytes) → Counts block ≡ fault_in bytes
   unfolding fault_in
-  fault_counts_lem given w e wrong =
-      ap Counts e
-      ∙ sym (ap₂ (λ s t. cond s (kept-or t) Strings) (strings_are given) (lt-ltb 0 (wrong_kept bytes) (positive (wrong_kept bytes) (λ z. wrong (e ∙ z)))))
-    where
-      positive : (k : ℕ) → (k ≡ 0 → ⊥) → 1 ≤ k
-      positive zero n = absurd (n refl)
-      positive (suc k) n = omega arith
+  fault_counts_lem given block e =
+      let at = the_place (wrong_kept bytes) block (sym e) in
+      ap Counts (sym at.0)
+      ∙ sym (ap₂ (λ s t. cond s (kept-or t) Strings) (strings_are given) (lt-ltb 0 (wrong_kept bytes) (omega (arith, at.0, at.1))))
 
-  pub fault_samples_lem : StringsGiven bytes layout → wrong_kept bytes ≡ 0 → (w : ℕ) → w ≡ wrong_sample bytes → Samples w ≡ fault_in bytes
+  pub fault_samples_lem : StringsGiven bytes layout → place_of (wrong_kept bytes) ≡ None → (found : Option ℕ) → found ≡ place_of (wrong_sample bytes)
+      → Samples (unwrap_or found 0) ≡ fault_in bytes
   unfolding fault_in
-  fault_samples_lem given kept w e =
-      ap Samples e
-      ∙ sym (ap₂ (λ s t. cond s (kept-or t) Strings) (strings_are given) (le-ltb 0 (wrong_kept bytes) (omega arith)))
+  fault_samples_lem given none found e =
+      ap Samples (ap (λ o. unwrap_or o 0) e ∙ number_of (wrong_sample bytes))
+      ∙ sym (ap₂ (λ s t. cond s (kept-or t) Strings) (strings_are given) (le-ltb 0 (wrong_kept bytes) (omega (arith, no_place (wrong_kept bytes) none))))
+    where
+      number_of : (k : ℕ) → unwrap_or (place_of k) 0 ≡ k
+      number_of zero = refl
+      number_of (suc k) = refl

@@ -10,7 +10,7 @@ ghost use Rattle.image_found.specs.Checked.{fault_in};
 
 use fault_counts::wrong_counts;
 use fault_samples::wrong_samples;
-use fault_strings::{StringsFound, find_strings};
+use fault_strings::find_strings;
 use image_found::Fault;
 use image_layout::Layout;
 
@@ -22,13 +22,12 @@ pub fn what_is_wrong(b: &[u8], layout: Layout) -> Fault
     requires header { Header b.now }
     ensures { result ≡ fault_in b.now }
 {
-    let strings = find_strings(b, layout);
-    let StringsFound::Given(miscounted) = strings else {
+    let Some(miscounted) = find_strings(b, layout) else {
         return Fault::Strings;
     };
-    let block = wrong_counts(b, layout, miscounted);
-    if block != 0 {
+    if let Some(block) = wrong_counts(b, layout, miscounted) {
         return Fault::Counts(block);
     }
-    Fault::Samples(wrong_samples(b, layout))
+    // `fault_in` says 0 where no sample is wrong
+    Fault::Samples(wrong_samples(b, layout).unwrap_or(0))
 }

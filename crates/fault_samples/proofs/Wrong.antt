@@ -6,13 +6,16 @@ use Prim.Native.Nat.{ℕ, suc, ◌+◌, ◌*◌, ◌/◌, ◌%◌, ◌≤◌, �
 use native.Mathlib.Decide.{dec_lt}
 use native.Mathlib.Omega.{arith}
 use lib.ListN.{length, get_or, take, get_or-eq_default}
+use Rattle.std.specs.Prelude.{Option, Some, None, unwrap_or}
 use Rattle.meaning.specs.Strings.{Bit, ones}
 use Rattle.meaning.specs.Image.{samples, string_in}
 use Rattle.meaning.specs.Faults.{wrong_sample}
 use Rattle.theory.specs.Rank.{position}
 use Rattle.theory.specs.Layout.{AreBytes, word_at, sample_place, sample_in, sample_word}
-use Rattle.theory.specs.Stages.{samples_of, blocks_of_samples, nodes_of, runs_of, r0_block, r1_samples, read_r1, read_r0, CountsAndPadding}
-use Rattle.theory.specs.Faults.{LowestWrong, none, here, RestKept, BlockSampled}
+use Rattle.theory.specs.Stages.{samples_of, blocks_of_samples, nodes_of, runs_of, r0_block, r1_samples, read_r1, read_r0}
+use Rattle.theory.specs.Faults.{RestKept, BlockSampled}
+use Rattle.theory.specs.Places.{place_of}
+use Rattle.theory.proofs.Places.{no_place, the_place}
 use Rattle.theory.proofs.Navigate.{one-there, place_of_one}
 use Rattle.theory.proofs.Payloads.{length-samples, sample_at}
 use Rattle.theory.proofs.TreeImages.{length-string_in}
@@ -23,6 +26,8 @@ use Rattle.check_counts_and_samples.specs.Samples.{SampledWithin}
 use Rattle.image_layout.specs.declared.Layout.{Layout}
 use Rattle.image_layout.specs.Layout.{layout_in}
 use Rattle.image_layout.specs.Fits.{LaidOut}
+use Rattle.fault_strings.specs.Lowest.{LowestBlock, all_right, wrong_at}
+use Rattle.fault_strings.proofs.Lowest.{lowest_number, lowest_place}
 use Rattle.fault_samples.specs.AllBut.{AllButSamples}
 
 -- ---- of one string
@@ -67,19 +72,19 @@ module _ (bytes : List ℕ) (from m : ℕ) (r : List Bit) (count : m ≡ ones r)
   unfolding sample_word
   right_word j w h l e = at-word j w h ∙ e ∙ sym (sample_at r (126 * j + w) (omega (arith, length-samples r)))
 
-  pub none_wrong : (x : ℕ) → SampledTo bytes from r ((m + 63) / 64) → ((j : ℕ) → j < blocks_of_samples m → RestKept bytes from (samples_of m) j) → x ≡ 0
-      → LowestWrong (BlockSampled bytes from r) from (blocks_of_samples m) x
+  pub none_wrong : (x : Option ℕ) → SampledTo bytes from r ((m + 63) / 64) → ((j : ℕ) → j < blocks_of_samples m → RestKept bytes from (samples_of m) j) → x ≡ None
+      → LowestBlock (BlockSampled bytes from r) from (blocks_of_samples m) x
   unfolding sample_word
-  none_wrong x f rest e = none e (λ j h w g. elim (dec_lt (126 * j + w) ((m + 63) / 64)) [
+  none_wrong x f rest e = all_right e (λ j h w g. elim (dec_lt (126 * j + w) ((m + 63) / 64)) [
     | yes l ↦ right_word j w g l (f (126 * j + w) l)
     | no l ↦ rest j h w g (omega arith) ∙ sym (get_or-eq_default (samples r) 0 (omega (arith, length-samples r)))
   ])
 
-  pub wrong_sample_lem : (s x : ℕ) → s < (m + 63) / 64 → SampledTo bytes from r s → (sample_in bytes from s ≡ position r (64 * s + 1) → ⊥) → x ≡ from + s / 126
-      → LowestWrong (BlockSampled bytes from r) from (blocks_of_samples m) x
+  pub wrong_sample_lem : (s : ℕ) (x : Option ℕ) → s < (m + 63) / 64 → SampledTo bytes from r s → (sample_in bytes from s ≡ position r (64 * s + 1) → ⊥) → x ≡ Some (from + s / 126)
+      → LowestBlock (BlockSampled bytes from r) from (blocks_of_samples m) x
   unfolding sample_word
   wrong_sample_lem s x l f wrong e =
-      here (s / 126) (omega arith) e (λ i h w g. right_word i w g (omega arith) (f (126 * i + w) (omega arith)))
+      wrong_at (s / 126) (omega arith) e (λ i h w g. right_word i w g (omega arith) (f (126 * i + w) (omega arith)))
       (λ b. wrong (sym (at-word (s / 126) (s % 126) (omega arith)
       ∙ ap (sample_in bytes from) (let e : 126 * (s / 126) + s % 126 ≡ s = omega arith in e))
       ∙ b (s % 126) (omega arith)
@@ -101,34 +106,29 @@ module _ (bytes : List ℕ) (layout : Layout) (are : AreBytes bytes) (laid : Lai
   long : 504 ≤ length bytes
   long = omega (arith, fits.room)
 
-  -- what the walk through each string's samples needs
-  pub needed1 : (layout.runs ≡ ones (string_in bytes 1 0 layout.nodes)) × CountsAndPadding bytes 1 (string_in bytes 1 0 layout.nodes)
-      × ((j : ℕ) → j < blocks_of_samples layout.runs → RestKept bytes layout.r1_samples (samples_of layout.runs) j)
-  needed1 =
-      subst (λ (x : Layout). (x.runs ≡ ones (string_in bytes 1 0 x.nodes)) × CountsAndPadding bytes 1 (string_in bytes 1 0 x.nodes)
-      × ((j : ℕ) → j < blocks_of_samples x.runs → RestKept bytes x.r1_samples (samples_of x.runs) j)) (sym is) (sym right.ended1.count, right.kept1, right.rest1)
-
-  pub needed0 : (layout.runs ≡ ones (string_in bytes layout.r0_block 0 (layout.nodes + 1)))
-      × CountsAndPadding bytes layout.r0_block (string_in bytes layout.r0_block 0 (layout.nodes + 1))
-      × ((j : ℕ) → j < blocks_of_samples layout.runs → RestKept bytes layout.r0_samples (samples_of layout.runs) j)
-  needed0 =
-      subst (λ (x : Layout). (x.runs ≡ ones (string_in bytes x.r0_block 0 (x.nodes + 1))) × CountsAndPadding bytes x.r0_block (string_in bytes x.r0_block 0 (x.nodes + 1))
-      × ((j : ℕ) → j < blocks_of_samples x.runs → RestKept bytes x.r0_samples (samples_of x.runs) j)) (sym is) (sym right.ended0.count, right.kept0, right.rest0)
-
-  module _ (w1 : ℕ) (l1 : LowestWrong (BlockSampled bytes layout.r1_samples (string_in bytes 1 0 layout.nodes)) layout.r1_samples (blocks_of_samples layout.runs) w1) where
-    in_S1 : w1 ≡ in_samples bytes (read_r1 bytes) (r1_samples n)
+  module _ (o1 : Option ℕ) (l1 : LowestBlock (BlockSampled bytes layout.r1_samples (string_in bytes 1 0 layout.nodes)) layout.r1_samples (blocks_of_samples layout.runs) o1) where
+    in_S1 : o1 ≡ place_of (in_samples bytes (read_r1 bytes) (r1_samples n))
     in_S1 =
-        lowest_in_samples bytes are (r1_samples n) m (read_r1 bytes) right.ended1.count (omega (arith, length-string_in bytes 1 0 n, fits.most)) (omega (arith, fits.room)) w1
-        (subst (λ (x : Layout). LowestWrong (BlockSampled bytes x.r1_samples (string_in bytes 1 0 x.nodes)) x.r1_samples (blocks_of_samples x.runs) w1) is l1)
+        let R = BlockSampled bytes (r1_samples n) (read_r1 bytes) in
+        let l = subst (λ (x : Layout). LowestBlock (BlockSampled bytes x.r1_samples (string_in bytes 1 0 x.nodes)) x.r1_samples (blocks_of_samples x.runs) o1) is l1 in
+        lowest_place R (r1_samples n) (blocks_of_samples m) o1 (omega arith) l
+        ∙ ap place_of (lowest_in_samples bytes are (r1_samples n) m (read_r1 bytes) right.ended1.count (omega (arith, length-string_in bytes 1 0 n, fits.most)) (omega (arith, fits.room))
+        (unwrap_or o1 0) (lowest_number R (r1_samples n) (blocks_of_samples m) o1 l))
 
-    pub named_S1 : (w1 ≡ 0 → ⊥) → w1 ≡ wrong_sample bytes
-    named_S1 wrong = in_S1 ∙ sym (sample_in_S1 bytes long right.ended1 (λ z. wrong (in_S1 ∙ z)))
+    pub named_S1 : (p : ℕ) → o1 ≡ Some p → Some p ≡ place_of (wrong_sample bytes)
+    named_S1 p is_some =
+        let e = sym is_some ∙ in_S1 in
+        let at = the_place _ p (sym e) in
+        e ∙ sym (ap place_of (sample_in_S1 bytes long right.ended1 (λ z. omega (arith, at.0, at.1))))
 
-    pub named_S0 : w1 ≡ 0 → (w0 : ℕ)
-        → LowestWrong (BlockSampled bytes layout.r0_samples (string_in bytes layout.r0_block 0 (layout.nodes + 1))) layout.r0_samples (blocks_of_samples layout.runs) w0
-        → w0 ≡ wrong_sample bytes
-    named_S0 none1 w0 l0 =
-        lowest_in_samples bytes are (r1_samples n + blocks_of_samples m) m (read_r0 bytes) right.ended0.count
-        (omega (arith, length-string_in bytes (r0_block n) 0 (n + 1), fits.most)) (omega (arith, fits.room)) w0
-        (subst (λ (x : Layout). LowestWrong (BlockSampled bytes x.r0_samples (string_in bytes x.r0_block 0 (x.nodes + 1))) x.r0_samples (blocks_of_samples x.runs) w0) is l0)
-        ∙ sym (sample_in_S0 bytes long right.ended1 (sym in_S1 ∙ none1))
+    pub named_S0 : o1 ≡ None → (o0 : Option ℕ)
+        → LowestBlock (BlockSampled bytes layout.r0_samples (string_in bytes layout.r0_block 0 (layout.nodes + 1))) layout.r0_samples (blocks_of_samples layout.runs) o0
+        → o0 ≡ place_of (wrong_sample bytes)
+    named_S0 none1 o0 l0 =
+        let from = r1_samples n + blocks_of_samples m in
+        let R = BlockSampled bytes from (read_r0 bytes) in
+        let l = subst (λ (x : Layout). LowestBlock (BlockSampled bytes x.r0_samples (string_in bytes x.r0_block 0 (x.nodes + 1))) x.r0_samples (blocks_of_samples x.runs) o0) is l0 in
+        lowest_place R from (blocks_of_samples m) o0 (omega arith) l
+        ∙ ap place_of (lowest_in_samples bytes are from m (read_r0 bytes) right.ended0.count
+        (omega (arith, length-string_in bytes (r0_block n) 0 (n + 1), fits.most)) (omega (arith, fits.room)) (unwrap_or o0 0) (lowest_number R from (blocks_of_samples m) o0 l)
+        ∙ sym (sample_in_S0 bytes long right.ended1 (no_place _ (sym in_S1 ∙ none1))))

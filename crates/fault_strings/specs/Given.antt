@@ -1,5 +1,5 @@
 -- What makes two strings those of a tree with n nodes and m runs.
-use Rattle.std.specs.Prelude.{◌≡◌, List, ℕ, ◌+◌, ◌-◌, ◌*◌, ◌/◌}
+use Rattle.std.specs.Prelude.{◌≡◌, List, ℕ, ◌+◌, ◌-◌, ◌*◌, ◌/◌, Option, Some, None}
 use Rattle.meaning.specs.Image.{string_in}
 use Rattle.theory.specs.Layout.{word_at}
 use Rattle.theory.specs.Stages.{Ended, InStep}
@@ -12,11 +12,11 @@ use Rattle.check_runs.specs.Steps.{StepWithin}
 abbrev pub CountKept : List ℕ → ℕ → ℕ → Type 0
 CountKept bytes first j = word_at bytes (512 * (first + j)) ≡ ones_to bytes first (4000 * j)
 
--- r is `found`, unless that is 0 and `block` has `kept` and not `ones`: then it is `block`
-pub data Lowest (found block kept ones r : ℕ) : Type 0 where
+-- r is `found`, unless that is none and `block` has `kept` and not `ones`: then it is `block`
+pub data Lowest (found : Option ℕ) (block kept ones : ℕ) (r : Option ℕ) : Type 0 where
   right : kept ≡ ones → r ≡ found → Lowest found block kept ones r
-  earlier : (found ≡ 0 → ⊥) → r ≡ found → Lowest found block kept ones r
-  this : found ≡ 0 → (kept ≡ ones → ⊥) → r ≡ block → Lowest found block kept ones r
+  earlier : (p : ℕ) → found ≡ Some p → r ≡ found → Lowest found block kept ones r
+  this : found ≡ None → (kept ≡ ones → ⊥) → r ≡ Some block → Lowest found block kept ones r
 
 -- R1 has m ones in n bits, R0 one less in its first n, and they are in step in the last block of
 -- these

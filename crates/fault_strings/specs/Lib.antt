@@ -1,2 +1,3 @@
+pub mod Lowest
 pub mod Given
 pub mod Found

@@ -4,12 +4,12 @@
 
 ghost use Rattle.std.specs.Prelude.{◌≡◌, ◌+◌, ◌-◌, ◌*◌, ◌/◌, ◌≤◌, length};
 ghost use Rattle.theory.specs.Bounds.{most_block};
-ghost use Rattle.theory.specs.Faults.{LowestWrong};
 ghost use Rattle.meaning.specs.Image.{string_blocks};
 ghost use Rattle.image_layout.specs.Fits.{LaidOut};
 ghost use Rattle.image_string.specs.Decides.{Decides};
 ghost use Rattle.image_string.specs.Parts.{ones_to};
 ghost use Rattle.check_runs.specs.Steps.{StepWithin};
+ghost use Rattle.fault_strings.specs.Lowest.{LowestBlock};
 ghost use Rattle.fault_strings.specs.Given.{CountKept, Lowest, LastBlocks, StepCounted, StringsGiven};
 ghost use Rattle.fault_strings.specs.Found.{Finds};
 
@@ -19,19 +19,11 @@ use image_layout::{Layout, bits_at, last_block, string_blocks};
 use image_string::string_bit;
 use image_words::word;
 
-// The lowest block of each string that counts the ones of earlier blocks wrong; 0 if none does.
+// The lowest block of each string that counts the ones of earlier blocks wrong, if one does.
 #[derive(Clone, Copy)]
 pub struct Miscounted {
-    pub in_r1: u32,
-    pub in_r0: u32,
-}
-
-// What the pass over both strings finds: that no tree with n and m gives them, or that one does and
-// which of their counts are wrong.
-#[derive(Clone, Copy)]
-pub enum StringsFound {
-    Wrong,
-    Given(Miscounted),
+    pub in_r1: Option<u32>,
+    pub in_r0: Option<u32>,
 }
 
 // Is R1 in step with R0, whose blocks begin at block `r0_block`, in the first n bits of their
@@ -63,18 +55,15 @@ fn block_step(
 }
 
 // The lowest block with a wrong count up to block `block`, which has `kept` where `ones` is right;
-// `found` is the lowest before it, or 0 if there is none.
-fn lowest_wrong(found: u32, block: usize, kept: u32, ones: u32) -> u32
+// `found` is the lowest before it.
+fn lowest_wrong(found: Option<u32>, block: usize, kept: u32, ones: u32) -> Option<u32>
     requires { block ≤ most_block }
     ensures { Lowest found block kept ones result }
 {
     if kept == ones {
         return found;
     }
-    if found != 0 {
-        return found;
-    }
-    block as u32
+    found.or(Some(block as u32))
 }
 
 // Has R1 m ones in its n bits, and R0, whose blocks begin at block `r0_block`, one less in its
@@ -105,14 +94,13 @@ fn last_blocks(b: &[u8], r0_block: usize, n: usize, m: u32, ones1: u32, ones0: u
 
 // The lowest block of R0 with a wrong count, where `found` is the lowest of the blocks of its first
 // n bits: its last bit may be in a block of its own, which `ones` ones come before.
-fn lowest_in_r0(b: &[u8], r0_block: usize, n: usize, found: u32, ones: u32) -> u32
+fn lowest_in_r0(b: &[u8], r0_block: usize, n: usize, found: Option<u32>, ones: u32) -> Option<u32>
     requires n_bound { n ≤ 65535 }
-    requires le_r0_block { 1 ≤ r0_block }
     requires b_len_bound { length b.now ≤ 512 * most_block }
     requires n_in_bounds { 512 * (r0_block + string_blocks (n + 1)) ≤ length b.now }
-    requires lowest_wrong { LowestWrong (CountKept b.now r0_block) r0_block (string_blocks n) found }
+    requires lowest_wrong { LowestBlock (CountKept b.now r0_block) r0_block (string_blocks n) found }
     requires ones_value { ones ≡ ones_to b.now r0_block n }
-    ensures { LowestWrong (CountKept b.now r0_block) r0_block (string_blocks (n + 1)) result }
+    ensures { LowestBlock (CountKept b.now r0_block) r0_block (string_blocks (n + 1)) result }
 {
     let last = last_block(n + 1);
     if last < string_blocks(n) {
@@ -124,62 +112,61 @@ fn lowest_in_r0(b: &[u8], r0_block: usize, n: usize, found: u32, ones: u32) -> u
 
 // Has R1 m ones in its n bits, and R0, whose blocks begin at block `r0_block`, m with one more
 // after its first n, and are their runs in step? The ones before each block are counted on the way,
-// and what the block says of them is held against that.
-fn step_counted(b: &[u8], r0_block: usize, n: usize, m: u32) -> StringsFound
+// and what the block says of them is held against that. If so: which blocks count wrong.
+fn step_counted(b: &[u8], r0_block: usize, n: usize, m: u32) -> Option<Miscounted>
     requires le_n { 1 ≤ n }
     requires n_bound { n ≤ 65535 }
-    requires le_r0_block { 1 ≤ r0_block }
     requires b_len_bound { length b.now ≤ 512 * most_block }
     requires n_in_bounds { 512 * (1 + string_blocks n) ≤ length b.now }
     requires n_in_bounds_2 { 512 * (r0_block + string_blocks (n + 1)) ≤ length b.now }
     ensures { Finds result (StepCounted b.now r0_block n m) b.now r0_block n }
 {
     if string_bit(b, 1, 0) == 0 {
-        return StringsFound::Wrong;
+        return None;
     }
     let last = last_block(n);
     let mut ones1: u32 = 0;
     let mut ones0: u32 = 0;
-    let mut wrong1 = lowest_wrong(0, 1, word(b, 512), 0);
-    let mut wrong0 = lowest_wrong(0, r0_block, word(b, 512 * r0_block), 0);
-    let mut j: usize = 0;
-    while j < last {
+    let mut wrong1 = lowest_wrong(None, 1, word(b, 512), 0);
+    let mut wrong0 = lowest_wrong(None, r0_block, word(b, 512 * r0_block), 0);
+    for j in 0..last {
         let end1 = ones1 + ones_from(b, bits_at(1 + j), 4000);
         if !block_step(b, r0_block, j, 4000, ones1, ones0, end1) {
-            return StringsFound::Wrong;
+            return None;
         }
         let end0 = ones0 + ones_from(b, bits_at(r0_block + j), 4000);
-        j += 1;
         // what the next block of each counts before it
-        let kept1 = word(b, 512 * (1 + j));
-        let kept0 = word(b, 512 * (r0_block + j));
-        wrong1 = lowest_wrong(wrong1, 1 + j, kept1, end1);
-        wrong0 = lowest_wrong(wrong0, r0_block + j, kept0, end0);
+        let next1 = 1 + j + 1;
+        let next0 = r0_block + j + 1;
+        let kept1 = word(b, 512 * next1);
+        let kept0 = word(b, 512 * next0);
+        wrong1 = lowest_wrong(wrong1, next1, kept1, end1);
+        wrong0 = lowest_wrong(wrong0, next0, kept0, end0);
         ones1 = end1;
         ones0 = end0;
     }
     if !last_blocks(b, r0_block, n, m, ones1, ones0) {
-        return StringsFound::Wrong;
+        return None;
     }
-    StringsFound::Given(Miscounted {
+    Some(Miscounted {
         in_r1: wrong1,
         in_r0: lowest_in_r0(b, r0_block, n, wrong0, m - 1),
     })
 }
 
-// Does a tree with n and m of the layout give the strings of an image, at the blocks of its layout,
-// and if so, which of their blocks count wrong? The last bit of each is one.
-pub fn find_strings(b: &[u8], layout: Layout) -> StringsFound
+// If a tree with n and m of the layout gives the strings of an image, at the blocks of its layout:
+// which of their blocks count wrong. The last bit of each is one.
+pub fn find_strings(b: &[u8], layout: Layout) -> Option<Miscounted>
     requires { LaidOut b.now layout }
     ensures { Finds result (StringsGiven b.now layout) b.now layout.r0_block layout.nodes }
 {
     let n = layout.nodes as usize;
     let r0_block = layout.r0_block as usize;
     if string_bit(b, 1, n - 1) != 1 {
-        return StringsFound::Wrong;
+        return None;
     }
     if string_bit(b, r0_block, n) != 1 {
-        return StringsFound::Wrong;
+        return None;
     }
     step_counted(b, r0_block, n, layout.runs)
 }

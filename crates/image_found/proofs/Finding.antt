@@ -1,5 +1,6 @@
 -- What the check of an image finds, from the facts that its tests show; and what the calls answer
 -- by it.
+use Rattle.std.specs.Prelude.{Ok, Err}
 use mathlib.Core.Path.{◌≡◌, refl, sym, ap, ◌∙◌}
 use mathlib.Core.Bool.{Bool, true, false, cond, not, ◌||◌}
 use mathlib.Core.List.{List, [], ◌∷◌, ◌++◌}
@@ -15,9 +16,7 @@ use Rattle.meaning.specs.Image.{header_word, is_image}
 use Rattle.meaning.specs.Faults.{is_header, are_strings, wrong_kept, wrong_sample}
 use Rattle.meaning.specs.declared.Answer.{Answer}
 use Rattle.meaning.specs.declared.Refusal.{Refusal}
-use Rattle.meaning.specs.declared.Verdict.{Verdict}
-use Rattle.meaning.specs.declared.Verdict.TheVariants as Verdict
-use Rattle.meaning.specs.Answers.{Row, ◌at◌when◌, Outcome, refused_with, came_to, first_holding, unless_refused, settle}
+use Rattle.meaning.specs.Answers.{Verdict, Row, ◌at◌when◌, Outcome, refused_with, came_to, first_holding, unless_refused, settle}
 use Rattle.meaning.specs.Tests.{outside, wrong_size, check_rows}
 use Rattle.theory.specs.Rows.{NoneHolds}
 use Rattle.theory.specs.Layout.{AreBytes}
@@ -27,10 +26,8 @@ use Rattle.theory.proofs.Settled.{or-first, or_neither, below, beyond, between, 
 use Rattle.theory.proofs.Stages.{image_stages, stages_image}
 use Rattle.theory.proofs.NoFault.{NoFault, faultless}
 use Rattle.image_layout.specs.declared.Layout.{Layout}
-use Rattle.image_found.specs.declared.Checked.{Checked}
-use Rattle.image_found.specs.declared.Checked.TheVariants.{Sound, Refused}
 use Rattle.image_found.specs.declared.Fault.TheVariants.{Version, Header, Strings, Counts, Samples}
-use Rattle.image_found.specs.Checked.{checked, found_by, layout_in, numbered, fault_in}
+use Rattle.image_found.specs.Checked.{Checked, checked, found_by, layout_in, numbered, fault_in}
 
 -- ---- the lowest wrong block is a block, or the number of blocks
 
@@ -64,7 +61,7 @@ unknown v e = elim (dec_lt v 1) [
 ]
 
 abbrev refused : ℕ → ℕ → Checked
-refused c p = Refused (record { code = c; place = p })
+refused c p = Err (record { code = c; place = p })
 
 module _ (bytes : List ℕ) where
   abbrev size : Row
@@ -119,14 +116,14 @@ module _ (bytes : List ℕ) where
       summed : first_holding (size ∷ sums ∷ from11) ≡ first_holding from11
       summed = sized ∙ first_on sums from11 whole
 
-      pub found-version : (Known (header_word bytes 0) → ⊥) → Refused (numbered Version) ≡ checked bytes
+      pub found-version : (Known (header_word bytes 0) → ⊥) → Err (numbered Version) ≡ checked bytes
       found-version e = by_rows _ (summed ∙ first-here version from12 (unknown (header_word bytes 0) e))
 
       module _ (known : Known (header_word bytes 0)) where
         versioned : first_holding (size ∷ sums ∷ from11) ≡ first_holding from12
         versioned = summed ∙ first_on version from12 (between 1 2 (header_word bytes 0) known.some known.most)
 
-        pub found-header : is_header bytes ≡ false → Refused (numbered Header) ≡ checked bytes
+        pub found-header : is_header bytes ≡ false → Err (numbered Header) ≡ checked bytes
         found-header e = by_rows _ (versioned ∙ first-here header from13 (ap not e))
 
         module _ (headed : is_header bytes ≡ true) where
@@ -134,9 +131,9 @@ module _ (bytes : List ℕ) where
           head_right = versioned ∙ first_on header from13 (ap not headed)
 
           -- no other row holds of an image
-          pub found_sound : NoFault bytes → Sound (layout_in bytes) ≡ checked bytes
+          pub found_sound : NoFault bytes → Ok (layout_in bytes) ≡ checked bytes
           found_sound f =
-              by_rows Verdict.Passed
+              by_rows (Ok tt)
               (head_right
               ∙ first_on strings from14 (ap not f.strings)
               ∙ first_on kept (samples ∷ []) (le-ltb 0 (wrong_kept bytes) (omega (arith, f.kept)))
@@ -144,12 +141,12 @@ module _ (bytes : List ℕ) where
               ∙ first-none)
 
           -- and one does of other bytes
-          pub found_fault : (NoFault bytes → ⊥) → Refused (numbered (fault_in bytes)) ≡ checked bytes
+          pub found_fault : (NoFault bytes → ⊥) → Err (numbered (fault_in bytes)) ≡ checked bytes
           unfolding fault_in
           found_fault wrong = by_strings_lem (are_strings bytes) refl
             where
               by_samples : (n : ℕ) → wrong_sample bytes ≡ n → are_strings bytes ≡ true → ltb 0 (wrong_kept bytes) ≡ false
-                  → Refused (numbered (Samples (wrong_sample bytes))) ≡ checked bytes
+                  → Err (numbered (Samples (wrong_sample bytes))) ≡ checked bytes
               by_samples zero e s k =
                   absurd (wrong (record { version = known; header = headed; strings = s; kept = let l = ltb-false 0 (wrong_kept bytes) k in omega arith; samples = e }))
               by_samples (suc n) e s k =
@@ -158,17 +155,17 @@ module _ (bytes : List ℕ) where
                   ∙ first-here samples [] (lt-ltb 0 (wrong_sample bytes) (omega arith)))
 
               by_kept : (t : Bool) → ltb 0 (wrong_kept bytes) ≡ t → are_strings bytes ≡ true
-                  → Refused (numbered (cond t (Counts (wrong_kept bytes)) (Samples (wrong_sample bytes)))) ≡ checked bytes
+                  → Err (numbered (cond t (Counts (wrong_kept bytes)) (Samples (wrong_sample bytes)))) ≡ checked bytes
               by_kept true e s = by_rows _ (head_right ∙ first_on strings from14 (ap not s) ∙ first-here kept (samples ∷ []) e)
               by_kept false e s = by_samples (wrong_sample bytes) refl s e
 
               by_strings_lem : (t : Bool) → are_strings bytes ≡ t
-                  → Refused (numbered (cond (are_strings bytes) (cond (ltb 0 (wrong_kept bytes)) (Counts (wrong_kept bytes)) (Samples (wrong_sample bytes))) Strings)) ≡ checked bytes
+                  → Err (numbered (cond (are_strings bytes) (cond (ltb 0 (wrong_kept bytes)) (Counts (wrong_kept bytes)) (Samples (wrong_sample bytes))) Strings)) ≡ checked bytes
               by_strings_lem true e =
-                  ap (λ t. Refused (numbered (cond t (cond (ltb 0 (wrong_kept bytes)) (Counts (wrong_kept bytes)) (Samples (wrong_sample bytes))) Strings))) e
+                  ap (λ t. Err (numbered (cond t (cond (ltb 0 (wrong_kept bytes)) (Counts (wrong_kept bytes)) (Samples (wrong_sample bytes))) Strings))) e
                   ∙ by_kept (ltb 0 (wrong_kept bytes)) refl e
               by_strings_lem false e =
-                  ap (λ t. Refused (numbered (cond t (cond (ltb 0 (wrong_kept bytes)) (Counts (wrong_kept bytes)) (Samples (wrong_sample bytes))) Strings))) e
+                  ap (λ t. Err (numbered (cond t (cond (ltb 0 (wrong_kept bytes)) (Counts (wrong_kept bytes)) (Samples (wrong_sample bytes))) Strings))) e
                   ∙ by_rows _ (head_right ∙ first-here strings from14 (ap not e))
 
   -- the stages decide whether any does
@@ -186,8 +183,8 @@ module _ (bytes : List ℕ) where
 
 module _ {A : Type 0} (before : A) (rest : List Row) (a : Answer) (after : A) where
   abbrev pub comes_to : Checked → Outcome A
-  comes_to (Sound i) = settle before rest a after
-  comes_to (Refused r) = came_to (refused_with r.code r.place) before
+  comes_to (Ok i) = settle before rest a after
+  comes_to (Err r) = came_to (refused_with r.code r.place) before
 
   -- by the first rows of a reading; w, what else may have a wrong size, does not hold
   pub rows_checked : (bytes : List ℕ) (w : Bool) → w ≡ false → settle before (check_rows bytes w ++ rest) a after ≡ comes_to (checked bytes)
@@ -198,15 +195,15 @@ module _ {A : Type 0} (before : A) (rest : List Row) (a : Answer) (after : A) wh
       ∙ by_verdict (first_holding (check_rows bytes false))
     where
       by_verdict : (v : Verdict) → unless_refused before v (settle before rest a after) ≡ comes_to (found_by v (layout_in bytes))
-      by_verdict Verdict.Passed = refl
-      by_verdict (Verdict.Refused r) = refl
+      by_verdict (Ok _) = refl
+      by_verdict (Err r) = refl
 
 -- what is known of an image that was found sound
 pub record IsSound (bytes : List ℕ) (i : Layout) : Type 0 where
   pub read : i ≡ layout_in bytes
   pub image : is_image bytes ≡ true
 
-clash : {X : Type 0} {i : Layout} {r : Refusal} → Refused r ≡ Sound i → X
+clash : {X : Type 0} {i : Layout} {r : Refusal} → Err r ≡ Ok i → X
 clash e = let z : ◌≡◌ {A = ℕ} 0 1 = cc in absurd (omega arith)
 
 -- bytes that no row of the check refuses are an image
@@ -228,10 +225,10 @@ held-image bytes n =
       samples = omega arith;
     })
 
-pub sound_known : (bytes : List ℕ) (i : Layout) → checked bytes ≡ Sound i → IsSound bytes i
+pub sound_known : (bytes : List ℕ) (i : Layout) → checked bytes ≡ Ok i → IsSound bytes i
 unfolding checked
 sound_known bytes i e = by_verdict (first_holding (check_rows bytes false)) refl e
   where
-    by_verdict : (v : Verdict) → first_holding (check_rows bytes false) ≡ v → found_by v (layout_in bytes) ≡ Sound i → IsSound bytes i
-    by_verdict Verdict.Passed f g = record { read = let e : i ≡ layout_in bytes = cc in e; image = held-image bytes (none_first (check_rows bytes false) (sym f)) }
-    by_verdict (Verdict.Refused r) f g = clash g
+    by_verdict : (v : Verdict) → first_holding (check_rows bytes false) ≡ v → found_by v (layout_in bytes) ≡ Ok i → IsSound bytes i
+    by_verdict (Ok _) f g = record { read = let e : i ≡ layout_in bytes = cc in e; image = held-image bytes (none_first (check_rows bytes false) (sym f)) }
+    by_verdict (Err r) f g = clash g

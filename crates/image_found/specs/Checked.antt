@@ -1,24 +1,24 @@
 -- What the whole check of an image finds, and the documents' numbers for it (document 01, "Numbers
 -- a caller gets back", and document 02, item 1).
-use Rattle.std.specs.Prelude.{false, cond, List, ℕ, ltb}
+use Rattle.std.specs.Prelude.{Result, Ok, Err, false, cond, List, ℕ, ltb}
 use Rattle.meaning.specs.declared.Answer.{Answer}
 use Rattle.meaning.specs.declared.Refusal.{Refusal}
-use Rattle.meaning.specs.declared.Verdict.{Verdict}
-use Rattle.meaning.specs.declared.Verdict.TheVariants as Verdict
-use Rattle.meaning.specs.Answers.{refused_with, counts, first_holding}
+use Rattle.meaning.specs.Answers.{Verdict, refused_with, counts, first_holding}
 use Rattle.meaning.specs.Tests.{check_rows}
 use Rattle.meaning.specs.Faults.{are_strings, wrong_kept, wrong_sample}
 pub use Rattle.image_layout.specs.Layout.{layout_in}
 use Rattle.image_layout.specs.declared.Layout.{Layout}
-use Rattle.image_found.specs.declared.Checked.{Checked}
-use Rattle.image_found.specs.declared.Checked.TheVariants.{Sound, Refused}
 use Rattle.image_found.specs.declared.Fault.{Fault}
 use Rattle.image_found.specs.declared.Fault.TheVariants.{Version, Header, Strings, Counts, Samples}
 
+-- what the check finds: the layout of a sound image, or the refusal
+abbrev pub Checked : Type 0
+Checked = Result Layout Refusal
+
 -- a layout, unless some row refuses it
 abbrev pub found_by : Verdict → Layout → Checked
-found_by Verdict.Passed layout = Sound layout
-found_by (Verdict.Refused r) layout = Refused r
+found_by (Ok _) layout = Ok layout
+found_by (Err r) layout = Err r
 
 -- the rows of the check
 unfoldable pub checked : List ℕ → Checked
@@ -26,8 +26,8 @@ checked bytes = found_by (first_holding (check_rows bytes false)) (layout_in byt
 
 -- what is answered: the counts of an image that is sound, or the refusal
 abbrev pub answered : Checked → Answer
-answered (Sound i) = counts i.nodes i.runs
-answered (Refused r) = refused_with r.code r.place
+answered (Ok i) = counts i.nodes i.runs
+answered (Err r) = refused_with r.code r.place
 
 -- code and place of what is wrong: for the strings the first block of R1
 abbrev pub numbered : Fault → Refusal

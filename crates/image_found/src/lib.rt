@@ -2,21 +2,13 @@
 #![tactic(auto)]
 
 ghost use Rattle.std.specs.Prelude.{◌≡◌};
-ghost use Rattle.image_found.specs.declared.Checked.TheVariants.{Refused};
 ghost use Rattle.image_found.specs.Checked.{answered, numbered};
 
 use image_layout::Layout;
 use meaning::{
     Answer, OTHER_VERSION, Refusal, WRONG_COUNTS, WRONG_HEADER, WRONG_SAMPLES, WRONG_STRINGS,
 };
-use table_answers::{done, refuse};
-
-// What the check finds: the layout of a sound image, or the refusal.
-#[derive(Clone, Copy)]
-pub enum Checked {
-    Sound(Layout),
-    Refused(Refusal),
-}
+use table_answers::done;
 
 // What is wrong with an image whose blocks all check and that no tree gives: another version, the
 // header, the strings, the counts of earlier ones or unused payload, the samples. The last two have
@@ -30,36 +22,29 @@ pub enum Fault {
     Samples(u32),
 }
 
-// A refusal by code and place.
-pub fn refused(code: u32, place: u32) -> Checked
-    ensures { result ≡ Refused (record { code = code; place = place }) }
-{
-    Checked::Refused(Refusal {
-        code: code,
-        place: place,
-    })
-}
-
 // Document 02's code and place for what is wrong.
-pub fn refused_by(fault: Fault) -> Checked
-    ensures { result ≡ Refused (numbered fault) }
-{
-    match fault {
-        Fault::Version => refused(OTHER_VERSION, 0),
-        Fault::Header => refused(WRONG_HEADER, 0),
-        // the first block of R1, whichever string is wrong
-        Fault::Strings => refused(WRONG_STRINGS, 1),
-        Fault::Counts(block) => refused(WRONG_COUNTS, block),
-        Fault::Samples(block) => refused(WRONG_SAMPLES, block),
+impl From<Fault> for Refusal {
+    ghost from_gives = { λ fault r. r ≡ numbered fault };
+
+    fn from(fault: Fault) -> Refusal {
+        let (code, place) = match fault {
+            Fault::Version => (OTHER_VERSION, 0),
+            Fault::Header => (WRONG_HEADER, 0),
+            // the first block of R1, whichever string is wrong
+            Fault::Strings => (WRONG_STRINGS, 1),
+            Fault::Counts(block) => (WRONG_COUNTS, block),
+            Fault::Samples(block) => (WRONG_SAMPLES, block),
+        };
+        Refusal { code, place }
     }
 }
 
 // Document 01's numbers for what the check found.
-pub fn answer_of(c: Checked) -> Answer
-    ensures { result ≡ answered c }
+pub fn answer_of(found: Result<Layout, Refusal>) -> Answer
+    ensures { result ≡ answered found }
 {
-    match c {
-        Checked::Sound(image) => done(image.nodes, image.runs),
-        Checked::Refused(refusal) => refuse(refusal.code, refusal.place),
+    match found {
+        Ok(image) => done(image.nodes, image.runs),
+        Err(refusal) => Answer::from(refusal),
     }
 }

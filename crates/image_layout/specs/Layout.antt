@@ -1,13 +1,11 @@
 -- Where the parts of an image begin, for a version, n nodes and m runs.
-use Rattle.std.specs.Prelude.{cond, List, ℕ, ◌+◌, eqb}
+use Rattle.std.specs.Prelude.{None, Some, Option, cond, List, ℕ, ◌+◌, eqb}
 use Rattle.theory.specs.Stages.{nodes_of, runs_of, version_in, r0_block, r1_samples, blocks_of_samples, metres_block, blocks_needed}
-use Rattle.image_layout.specs.declared.MetresAt.{MetresAt}
-use Rattle.image_layout.specs.declared.MetresAt.TheVariants.{Nowhere, From}
 use Rattle.image_layout.specs.declared.Layout.{Layout}
 
 -- in version 2 from this block on
-abbrev pub metres_at : ℕ → ℕ → MetresAt
-metres_at v block = cond (eqb v 2) (From block) Nowhere
+abbrev pub metres_at : ℕ → ℕ → Option ℕ
+metres_at v block = cond (eqb v 2) (Some block) None
 
 abbrev pub layout_of : ℕ → ℕ → ℕ → Layout
 layout_of v n m = record {

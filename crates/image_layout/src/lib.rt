@@ -11,15 +11,9 @@ ghost use Rattle.image_layout.specs.Layout.{metres_at, layout_of};
 
 use meaning::WITH_METRES;
 
-// The block at which the metres of an image begin, if it has any: no metres are not 0 metres.
-#[derive(Clone, Copy)]
-pub enum MetresAt {
-    Nowhere,
-    From(u32),
-}
-
 // The nodes and runs of an image, the blocks at which R0, the samples of R1, those of R0 and the
-// metres begin, and the number of its blocks. The header is block 0, and R1 begins at block 1.
+// metres begin, if it has any, and the number of its blocks. The header is block 0, and R1 begins
+// at block 1. No metres are not 0 metres.
 #[derive(Clone, Copy)]
 pub struct Layout {
     pub nodes: u32,
@@ -27,7 +21,7 @@ pub struct Layout {
     pub r0_block: u32,
     pub r1_samples: u32,
     pub r0_samples: u32,
-    pub metres: MetresAt,
+    pub metres: Option<u32>,
     pub blocks: u32,
 }
 
@@ -112,13 +106,13 @@ fn metres_held(version: u32, n: usize) -> usize
 }
 
 // Where the metres begin, by the version: at the block after all others, or nowhere.
-fn metres_at(version: u32, block: u32) -> MetresAt
+fn metres_at(version: u32, block: u32) -> Option<u32>
     ensures { result ≡ metres_at version block }
 {
     if version == WITH_METRES {
-        return MetresAt::From(block);
+        return Some(block);
     }
-    MetresAt::Nowhere
+    None
 }
 
 // The layout of an image of n nodes with m runs: the header, the two strings, their samples, and in

@@ -1,4 +1,5 @@
 -- The promises of specs/Faults.antt.
+use Rattle.std.specs.Prelude.{Err}
 use mathlib.Core.Path.{◌≡◌, refl, sym, ap, ap₂, ◌∙◌, subst}
 use mathlib.Core.Bool.{Bool, true, false, true≢false, cond, not, ◌&&◌}
 use mathlib.Core.List.{List, [], ◌∷◌, ◌++◌}
@@ -20,7 +21,7 @@ use Rattle.meaning.specs.Answers.{Row, ◌at◌when◌, refused_with, came_to, c
 use Rattle.meaning.specs.Tests.{outside, wrong_size, check_rows}
 use Rattle.calls.specs.Calls.{check_image}
 use Rattle.theory.specs.Rows.{NoneHolds}
-use Rattle.theory.proofs.Settled.{between, or_neither, settle-here, settle_on, settle-none}
+use Rattle.theory.proofs.Settled.{between, or_neither, settle_on, settle-none}
 use Rattle.theory.proofs.Codes.{neither, not_unequal, not-outside, Others, upper-none, row_held, settle-first}
 use Rattle.theory.specs.Layout.{total}
 use Rattle.theory.specs.Stages.{nodes_of, runs_of, version_in, Known}
@@ -32,7 +33,6 @@ use Rattle.theory.proofs.TreeImages.{length-string_in, words-measured, image-siz
 use Rattle.theory.proofs.Stages.{metres-version}
 use Rattle.theory.proofs.Faults.{header_of, version-at, nodes-at, runs-at, header_told, strings_told, told_strings}
 use Rattle.theory.proofs.NoFault.{NoFault, image-payload, image_faultless}
-use Rattle.image_found.specs.declared.Checked.TheVariants.{Refused}
 use Rattle.image_found.specs.declared.Fault.{Fault}
 use Rattle.image_found.specs.declared.Fault.TheVariants.{Version, Header}
 use Rattle.image_found.specs.Checked.{checked, answered, numbered, fault_in}
@@ -299,21 +299,21 @@ refused_by_fault bytes checks refused = by_version (outside 1 2 (header_word byt
     whole : ltb (wrong_block bytes) (blocks_in bytes) ≡ false
     whole = le-ltb (wrong_block bytes) (blocks_in bytes) (omega (arith, checks.sums))
 
-    answer : (f : Fault) → Refused (numbered f) ≡ checked bytes → came_to (answered (Refused (numbered f))) tt ≡ check_image bytes
+    answer : (f : Fault) → Err (numbered f) ≡ checked bytes → came_to (answered (Err (numbered f))) tt ≡ check_image bytes
     answer f e = ap (λ c. came_to (answered c) tt) e ∙ image-answered bytes
 
-    by_header : (b : Bool) → is_header bytes ≡ b → Known (header_word bytes 0) → came_to (answered (Refused (numbered (cond b (fault_in bytes) Header)))) tt ≡ check_image bytes
+    by_header : (b : Bool) → is_header bytes ≡ b → Known (header_word bytes 0) → came_to (answered (Err (numbered (cond b (fault_in bytes) Header)))) tt ≡ check_image bytes
     by_header true e v =
         answer (fault_in bytes) (found_fault bytes checks.size whole v e (λ f.
         refused (ap (λ o. o.answer.code) (sym (image-answered bytes)) ∙ ap (λ c. (answered c).code) (sym (found_sound bytes checks.size whole v e f)))))
     by_header false e v = answer Header (found-header bytes checks.size whole v e)
 
-    by_version : (b : Bool) → outside 1 2 (header_word bytes 0) ≡ b → came_to (answered (Refused (numbered (fault_of bytes)))) tt ≡ check_image bytes
+    by_version : (b : Bool) → outside 1 2 (header_word bytes 0) ≡ b → came_to (answered (Err (numbered (fault_of bytes)))) tt ≡ check_image bytes
     by_version true e =
-        ap (λ b. came_to (answered (Refused (numbered (cond b Version (cond (is_header bytes) (fault_in bytes) Header))))) tt) e
+        ap (λ b. came_to (answered (Err (numbered (cond b Version (cond (is_header bytes) (fault_in bytes) Header))))) tt) e
         ∙ answer Version (found-version bytes checks.size whole (unknown (header_word bytes 0) e))
     by_version false e =
-        ap (λ b. came_to (answered (Refused (numbered (cond b Version (cond (is_header bytes) (fault_in bytes) Header))))) tt) e
+        ap (λ b. came_to (answered (Err (numbered (cond b Version (cond (is_header bytes) (fault_in bytes) Header))))) tt) e
         ∙ by_header (is_header bytes) refl (is_known (header_word bytes 0) e)
 
 pub one_of_five : P.OneOfFive

@@ -1,9 +1,10 @@
 -- What the rows of the check of an image come to in a call: a tree's image passes them, other bytes
 -- are refused by them, and what code 0 after them tells.
+use Rattle.std.specs.Prelude.{Ok, Err}
 use mathlib.Core.Path.{◌≡◌, refl, sym, ap, ◌∙◌}
 use mathlib.Core.Bool.{Bool, false, not}
 use mathlib.Core.List.{List, ◌++◌}
-use Prim.Native.Nat.{ℕ, ◌/◌, ◌%◌, ◌≤◌}
+use Prim.Native.Nat.{ℕ, ◌/◌, ◌%◌}
 use native.Mathlib.Omega.{arith}
 use borrow.Author.Tests.{le-ltb}
 use lib.Dec.{eqb}
@@ -20,15 +21,13 @@ use Rattle.theory.proofs.Codes.{neither, Others, check_refuses, none-held}
 use Rattle.theory.proofs.TreeImages.{is_image_lem}
 use Rattle.theory.proofs.NoFault.{image_faultless}
 use Rattle.theorems.proofs.Promises.{image-has-blocks}
-use Rattle.image_found.specs.declared.Checked.{Checked}
-use Rattle.image_found.specs.declared.Checked.TheVariants.{Sound, Refused}
-use Rattle.image_found.specs.Checked.{checked, layout_in, answered}
+use Rattle.image_found.specs.Checked.{Checked, checked, layout_in, answered}
 use Rattle.image_found.proofs.Finding.{comes_to, rows_checked, found_sound, held-image}
 use Rattle.call_check_image.proofs.Calling.{image-answered}
 
 -- w, what else that is lent may have a wrong size, does not hold
 module _ (c : Content) (h : FitImage c) where
-  tree_sound : Sound (layout_in (image c)) ≡ checked (image c)
+  tree_sound : Ok (layout_in (image c)) ≡ checked (image c)
   tree_sound =
       let x = image c in
       let b = image-has-blocks c h in
@@ -48,8 +47,8 @@ module _ (bytes : List ℕ) (refused : (check_image bytes).answer.code ≡ 0 →
   not_passed w f before rest a after = rows_checked before rest a after bytes w f ∙ by_found (checked bytes) refl
     where
       by_found : (c : Checked) → checked bytes ≡ c → comes_to before rest a after c ≡ came_to (check_image bytes).answer before
-      by_found (Sound i) e = absurd (refused (ap (λ o. o.answer.code) (sym (image-answered bytes)) ∙ ap (λ c. (answered c).code) e))
-      by_found (Refused r) e = ap (λ r. came_to r before) (ap answered (sym e) ∙ ap (λ o. o.answer) (image-answered bytes))
+      by_found (Ok i) e = absurd (refused (ap (λ o. o.answer.code) (sym (image-answered bytes)) ∙ ap (λ c. (answered c).code) e))
+      by_found (Err r) e = ap (λ r. came_to r before) (ap answered (sym e) ∙ ap (λ o. o.answer) (image-answered bytes))
 
 -- code 0: what else is lent has a right size, some tree gives the bytes, and no row after the
 -- check holds

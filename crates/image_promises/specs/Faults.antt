@@ -1,7 +1,7 @@
 -- What the refusal names of bytes that no tree gives, with metres or without, whose size and sums
 -- are right (document 02, item 1, "Say what is wrong with an image").
 -- Each name is a statement; proofs/Faults.antt has a proof of each.
-use Rattle.std.specs.Prelude.{◌≡◌, false, cond, List, ◌⊎◌, ◌↔◌, ℕ, ◌+◌, ◌*◌, ◌/◌, ◌%◌, ◌≤◌, ◌<◌, length, get_or, take}
+use Rattle.std.specs.Prelude.{Err, ◌≡◌, false, cond, List, ◌⊎◌, ◌↔◌, ℕ, ◌+◌, ◌*◌, ◌/◌, ◌%◌, ◌≤◌, ◌<◌, length, get_or, take}
 use Rattle.meaning.specs.Trees.{Tree, nodes}
 use Rattle.meaning.specs.Strings.{lbs, R1, R0}
 use Rattle.meaning.specs.Blocks.{blocks_in, wrong_block}
@@ -13,7 +13,6 @@ use Rattle.calls.specs.Calls.{check_image}
 use Rattle.theory.specs.Rank.{with_children}
 use Rattle.theory.specs.Layout.{AreBytes}
 use Rattle.theory.specs.Stages.{Known}
-use Rattle.image_found.specs.declared.Checked.TheVariants.{Refused}
 use Rattle.image_found.specs.declared.Fault.{Fault}
 use Rattle.image_found.specs.declared.Fault.TheVariants.{Version, Header}
 use Rattle.image_found.specs.Checked.{answered, numbered, fault_in}
@@ -114,7 +113,7 @@ fault_of bytes = cond (outside 1 2 (header_word bytes 0)) Version (cond (is_head
 -- wrong
 abbrev pub RefusedByFault : Type 0
 RefusedByFault = (bytes : List ℕ) → Checks bytes → ((check_image bytes).answer.code ≡ 0 → ⊥)
-    → came_to (answered (Refused (numbered (fault_of bytes)))) tt ≡ check_image bytes
+    → came_to (answered (Err (numbered (fault_of bytes)))) tt ≡ check_image bytes
 
 -- which is one of the five codes
 abbrev pub OneOfFive : Type 0

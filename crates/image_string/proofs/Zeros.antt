@@ -1,5 +1,5 @@
 -- Bytes that are zero: taken together by or, and in words.
-use mathlib.Core.Path.{◌≡◌, refl, ap, ap₂, ◌∙◌}
+use mathlib.Core.Path.{◌≡◌, refl, sym, ap, ap₂, ◌∙◌}
 use mathlib.Core.List.{List}
 use Prim.Native.Nat.{ℕ, zero, suc, ◌+◌, ◌≤◌, ◌<◌}
 use native.Mathlib.Decide.{ℕ_discrete}
@@ -19,16 +19,16 @@ or_right a b e = omega (arith, or_add_and a b, and_le_l a b)
 abbrev pub Seen : List ℕ → ℕ → ℕ → ℕ → Type 0
 Seen bytes from i seen = (seen ≡ 0 → ZeroBytes bytes from i) × (ZeroBytes bytes from i → seen ≡ 0)
 
-pub seen_none : (bytes : List ℕ) (from : ℕ) → Seen bytes from from 0
-seen_none bytes from = (λ e i h g. absurd (omega arith), λ z. refl)
+pub seen_none : (bytes : List ℕ) (from i : ℕ) → i ≤ from → Seen bytes from i 0
+seen_none bytes from i l = (λ e k h g. absurd (omega arith), λ z. refl)
 
-pub seen_more : (bytes : List ℕ) (from i seen : ℕ) → from ≤ i → Seen bytes from i seen → Seen bytes from (i + 1) (bit_or seen (get_or bytes i 0))
-seen_more bytes from i seen h s = (
+pub seen_more : (bytes : List ℕ) (from i next seen x : ℕ) → from ≤ i → next ≡ i + 1 → x ≡ get_or bytes i 0 → Seen bytes from i seen → Seen bytes from next (bit_or seen x)
+seen_more bytes from i next seen x h n is s = (
   λ e k l g. elim (ℕ_discrete k i) [
-    | yes q ↦ ap (λ j. get_or bytes j 0) q ∙ or_right seen (get_or bytes i 0) e
-    | no d ↦ s.0 (or_left seen (get_or bytes i 0) e) k l (omega arith)
+    | yes q ↦ ap (λ j. get_or bytes j 0) q ∙ sym is ∙ or_right seen x e
+    | no d ↦ s.0 (or_left seen x e) k l (omega arith)
   ],
-  λ z. ap₂ bit_or (s.1 (λ k l g. z k l (omega arith))) (z i h (omega arith)) ∙ or_zero_l 0,
+  λ z. ap₂ bit_or (s.1 (λ k l g. z k l (omega arith))) (is ∙ z i h (omega arith)) ∙ or_zero_l 0,
 )
 
 -- a word is zero exactly if its bytes are

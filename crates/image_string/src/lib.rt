@@ -28,10 +28,8 @@ pub fn all_zero(b: &[u8], from: usize, to: usize) -> bool
     ensures { Decides result (ZeroBytes b.now from to) }
 {
     let mut seen: u8 = 0;
-    let mut i = from;
-    while i < to {
-        seen = seen | b[i];
-        i += 1;
+    for x in &b[from..to] {
+        seen |= *x;
     }
     seen == 0
 }

@@ -1,6 +1,7 @@
 -- What the loop over a payload's words keeps: the sums of the words that are left, from the s and t
 -- reached, are those of all.
-use Rattle.std.proofs.Common.{◌≡◌, ℕ, ◌+◌, ◌*◌, ◌%◌, ◌^◌, ◌<◌, ◌≤◌, List, [], ◌∷◌, length, get_or, take, drop, sym, ap, ◌∙◌, ap₂, add-one, arith, length-drop, drop_of_length-le, length-take-le, drop-cons}
+use Rattle.std.specs.Prelude.{◌≡◌, ℕ, ◌+◌, ◌*◌, ◌%◌, ◌^◌, ◌<◌, ◌≤◌, List, [], ◌∷◌, length, get_or, take, drop}
+use Rattle.std.proofs.Common.{sym, ap, ◌∙◌, ap₂, add-one, arith, length-drop, drop_of_length-le, length-take-le, drop-cons}
 use Rattle.meaning.specs.Blocks.{words, sums}
 use Rattle.theory.specs.Layout.{word_at}
 use Rattle.theory.proofs.Digits.{words-at, length-words, word_at-take, word_at-drop}

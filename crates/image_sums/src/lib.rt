@@ -6,7 +6,6 @@ ghost use Rattle.meaning.specs.Blocks.{sums, words};
 ghost use Rattle.image_sums.specs.Pair.{sums_of};
 
 use image_words::word;
-use std::num::wrapping_add_u32;
 
 // The two sums of a block.
 #[derive(Clone, Copy)]
@@ -17,18 +16,15 @@ pub struct Sums {
 
 // The sums of the 126 words from byte `at` on, s from `start` and t from 0: each word is added to
 // s, and then s to t.
-// The words are counted by their bytes, so that a word is found by one addition.
 pub fn block_sums(b: &[u8], at: usize, start: u32) -> Sums
     requires { at + 504 ≤ length b.now }
     ensures { sums_of result ≡ sums (words (take 504 (drop at b.now))) start 0 }
 {
     let mut s = start;
     let mut t: u32 = 0;
-    let mut i: usize = 0;
-    while i < 504 {
-        s = wrapping_add_u32(s, word(b, at + i));
-        t = wrapping_add_u32(t, s);
-        i += 4;
+    for i in 0..126 {
+        s = s.wrapping_add(word(b, at + 4 * i));
+        t = t.wrapping_add(s);
     }
-    Sums { s: s, t: t }
+    Sums { s, t }
 }

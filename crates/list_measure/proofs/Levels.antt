@@ -1,5 +1,6 @@
 -- The listing level by level: the children of the nodes after a, up to z, are the nodes after `low
 -- (suc a)`, up to `low (suc z)`.
+use Rattle.std.specs.Prelude.{Ok, Err}
 use mathlib.Core.Path.{◌≡◌, refl, sym, ap, ap₂, ◌∙◌, subst}
 use mathlib.Core.Bool.{Bool, true, false, cond}
 use mathlib.Core.List.{List, [], ◌∷◌, ◌++◌, append-nil, append_assoc}
@@ -13,7 +14,6 @@ use Rattle.meaning.specs.Questions.{children_of}
 use Rattle.meaning.specs.Listing.{for_each, listing, deep}
 use Rattle.theory.specs.Rank.{counting}
 use Rattle.theory.proofs.Navigate.{counted}
-use Rattle.list_measure.specs.declared.Measured.TheVariants.{Fits, TooDeep}
 use Rattle.list_measure.specs.Levels.{sized, size_of, levels_from}
 
 -- ---- numbers in a row
@@ -74,20 +74,20 @@ deep-both (x ∷ d ∷ xs) ys p e = go (eqb d 64) refl (λ f. deep-both xs ys p.
 
 -- ---- a level, and those below it
 
-pub levels-end : (next : ℕ → ℕ) (l a z n : ℕ) → z ≤ a → levels_from next l a z n ≡ Fits n
+pub levels-end : (next : ℕ → ℕ) (l a z n : ℕ) → z ≤ a → levels_from next l a z n ≡ Ok n
 unfolding levels_from
-levels-end next zero a z n h = ap (λ t. cond t (TooDeep (suc a)) (Fits n)) (le-ltb a z h)
-levels-end next (suc l) a z n h = ap (λ t. cond t (levels_from next l (next a) (next z) (n + (z - a))) (Fits n)) (le-ltb a z h)
+levels-end next zero a z n h = ap (λ t. cond t (Err (suc a)) (Ok n)) (le-ltb a z h)
+levels-end next (suc l) a z n h = ap (λ t. cond t (levels_from next l (next a) (next z) (n + (z - a))) (Ok n)) (le-ltb a z h)
 
-pub levels-deep : (next : ℕ → ℕ) (l a z n : ℕ) → l ≡ 0 → a < z → levels_from next l a z n ≡ TooDeep (suc a)
+pub levels-deep : (next : ℕ → ℕ) (l a z n : ℕ) → l ≡ 0 → a < z → levels_from next l a z n ≡ Err (suc a)
 unfolding levels_from
-levels-deep next l a z n e h = ap (λ k. levels_from next k a z n) e ∙ ap (λ t. cond t (TooDeep (suc a)) (Fits n)) (lt-ltb a z h)
+levels-deep next l a z n e h = ap (λ k. levels_from next k a z n) e ∙ ap (λ t. cond t (Err (suc a)) (Ok n)) (lt-ltb a z h)
 
 pub levels_more : (next : ℕ → ℕ) (l a z n : ℕ) → 0 < l → a < z → levels_from next l a z n ≡ levels_from next (l - 1) (next a) (next z) (n + (z - a))
 unfolding levels_from
 levels_more next zero a z n g h = absurd (omega arith)
 levels_more next (suc l) a z n g h =
-    ap (λ t. cond t (levels_from next l (next a) (next z) (n + (z - a))) (Fits n)) (lt-ltb a z h)
+    ap (λ t. cond t (levels_from next l (next a) (next z) (n + (z - a))) (Ok n)) (lt-ltb a z h)
     ∙ ap (λ k. levels_from next k (next a) (next z) (n + (z - a))) (let e : l ≡ suc l - 1 = omega arith in e)
 
 module _ (ps : List ℕ) (low : ℕ → ℕ) (mono : (z : ℕ) → low z ≤ low (suc z)) (kids : (x : ℕ) → children_of ps x ≡ counting (suc (low x)) (low (suc x) - low x)) where

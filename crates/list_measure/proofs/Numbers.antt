@@ -1,5 +1,6 @@
 -- In an image that the check found sound: the ones before a zero, as its strings give them, are
 -- those of its tree's string; and what single bits of its strings tell of them.
+use Rattle.std.specs.Prelude.{Ok}
 use mathlib.Core.Path.{◌≡◌, refl, sym, ap, ap₂, ◌∙◌}
 use mathlib.Core.List.{List}
 use Prim.Native.Nat.{ℕ, zero, suc, ◌+◌, ◌-◌, ◌≤◌, ◌<◌}
@@ -25,7 +26,6 @@ use Rattle.theory.proofs.Navigate.{counted, children_are, ones_before_is, ones_b
 use Rattle.theory.proofs.TreeImages.{is_image_lem, parents_in_lem}
 use Rattle.theory.proofs.Stages.{image_stages, parts_read}
 use Rattle.image_layout.specs.declared.Layout.{Layout}
-use Rattle.image_found.specs.declared.Checked.TheVariants.{Sound}
 use Rattle.image_found.specs.Checked.{checked}
 use Rattle.image_found.proofs.Finding.{sound_known}
 use Rattle.bits_byte.proofs.Values.{is_O, is_I}
@@ -44,7 +44,7 @@ some_or_none I i (suc m) mark e f = (λ z. absurd (omega arith), λ z. omega ari
 
 -- ---- of an image
 
-module _ (bytes : List ℕ) (i : Layout) (found : checked bytes ≡ Sound i) where
+module _ (bytes : List ℕ) (i : Layout) (found : checked bytes ≡ Ok i) where
   counted-nodes : i.nodes ≡ nodes_of bytes
   counted-nodes = ap (λ j. j.nodes) (sound_known bytes i found).read
 

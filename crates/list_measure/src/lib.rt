@@ -11,16 +11,9 @@ ghost use Rattle.list_measure.specs.Cursors.{CursorsReady};
 use image_layout::Layout;
 use nav_children::ones_before_zero;
 
-// What a listing takes: how many nodes it has, or the first node that it would have at depth 64.
-#[derive(Clone, Copy)]
-pub enum Measured {
-    Fits(u32),
-    TooDeep(u32),
-}
-
 // How many nodes node x and everything below it are, level by level, or the first of them at depth
 // 64. The cursor of each level is left at the number before its first node.
-pub fn measure(b: &[u8], image: Layout, x: usize, cursors: &mut [u32; 64]) -> Measured
+pub fn measure(b: &[u8], image: Layout, x: usize, cursors: &mut [u32; 64]) -> Result<u32, u32>
     requires node { IsNode b.now image x }
     requires cursors_len { length cursors.old ≡ 64 }
     ensures value { result ≡ size_of (listing 65 (parents_in b.now) x 0) }
@@ -34,7 +27,7 @@ pub fn measure(b: &[u8], image: Layout, x: usize, cursors: &mut [u32; 64]) -> Me
     let mut depth: usize = 0;
     while a < z {
         if depth == 64 {
-            return Measured::TooDeep(a as u32 + 1);
+            return Err(a as u32 + 1);
         }
         cursors[depth] = a as u32;
         nodes += z - a;
@@ -42,5 +35,5 @@ pub fn measure(b: &[u8], image: Layout, x: usize, cursors: &mut [u32; 64]) -> Me
         z = ones_before_zero(b, image, z + 1);
         depth += 1;
     }
-    Measured::Fits(nodes as u32)
+    Ok(nodes as u32)
 }

@@ -1,4 +1,5 @@
 -- The cursors while the children of a node are listed.
+use Rattle.std.specs.Prelude.{Ok}
 use mathlib.Core.Path.{◌≡◌, sym, ap, ◌∙◌, subst}
 use mathlib.Core.List.{List}
 use Prim.Native.Nat.{ℕ, suc, ◌+◌, ◌-◌, ◌≤◌, ◌<◌}
@@ -6,7 +7,6 @@ use native.Mathlib.Omega.{arith}
 use lib.ListN.{length, get_or, set, take, drop}
 use lib.Seq.{get_or-take, get_or-set_same, drop-set-lt, take-set-le, take-take}
 use Rattle.image_layout.specs.declared.Layout.{Layout}
-use Rattle.image_found.specs.declared.Checked.TheVariants.{Sound}
 use Rattle.image_found.specs.Checked.{checked}
 use Rattle.list_measure.specs.Levels.{ones_before_in, below}
 use Rattle.list_measure.specs.Cursors.{CursorsReady}
@@ -19,7 +19,7 @@ use Rattle.list_write.specs.Writing.{MovedOn}
 abbrev pub Along : List ℕ → ℕ → ℕ → List ℕ → List ℕ → ℕ → Type 0
 Along bytes x e cs ds a = (y : ℕ) → x < y → CursorsReady (below bytes) (drop e cs) (ones_before_in bytes x) (ones_before_in bytes y) → CursorsReady (below bytes) (drop e ds) a (ones_before_in bytes y)
 
-module _ (bytes : List ℕ) (i : Layout) (found : checked bytes ≡ Sound i) (x e : ℕ) (cs ds : List ℕ) (a : ℕ) (more : a < ones_before_in bytes (x + 1)) (along : Along bytes x e cs ds a) where
+module _ (bytes : List ℕ) (i : Layout) (found : checked bytes ≡ Ok i) (x e : ℕ) (cs ds : List ℕ) (a : ℕ) (more : a < ones_before_in bytes (x + 1)) (along : Along bytes x e cs ds a) where
   -- level e has a cursor, at the child before the next one, and the levels below it are ready for
   -- that one
   pub next_child : CursorsReady (below bytes) (drop e cs) (ones_before_in bytes x) (ones_before_in bytes (x + 1))
@@ -48,7 +48,8 @@ above_stay ds ds' e v q =
     sym (take-take e (suc e) ds' (omega arith)) ∙ ap (take e) q ∙ take-take e (suc e) (set ds e v) (omega arith) ∙ take-set-le e ds e v (omega arith)
 
 -- node x is listed first, and the others of its level are none
-pub ready-below : (bytes : List ℕ) (x : ℕ) (cs : List ℕ) → 1 ≤ x → CursorsReady (below bytes) cs (x - 1) x → CursorsReady (below bytes) (drop 1 cs) (ones_before_in bytes x) (ones_before_in bytes (x + 1))
+pub ready-below : (bytes : List ℕ) (x : ℕ) (cs : List ℕ) → 1 ≤ x → CursorsReady (below bytes) cs (x - 1) x
+    → CursorsReady (below bytes) (drop 1 cs) (ones_before_in bytes x) (ones_before_in bytes (x + 1))
 ready-below bytes x cs h r =
     subst (λ k. CursorsReady (below bytes) (drop 1 cs) (ones_before_in bytes k) (ones_before_in bytes (x + 1))) (let e : x - 1 + 1 ≡ x = omega arith in e)
     (ready-some (below bytes) cs 0 (x - 1) x (omega arith) r).2

@@ -1,5 +1,6 @@
 -- The listing as it is written: a list whose front is written and whose rest is as it was, and the
 -- children that are still to come.
+use Rattle.std.specs.Prelude.{Ok}
 use mathlib.Core.Path.{◌≡◌, refl, sym, ap, ap₂, ◌∙◌, subst}
 use mathlib.Core.List.{List, [], ◌∷◌, ◌++◌, append_assoc, append-nil}
 use Prim.Native.Nat.{ℕ, suc, ◌+◌, ◌-◌, ◌≤◌, ◌<◌}
@@ -12,7 +13,6 @@ use Rattle.meaning.specs.Image.{parents_in}
 use Rattle.meaning.specs.Listing.{for_each, listing}
 use Rattle.theory.specs.Rank.{counting}
 use Rattle.image_layout.specs.declared.Layout.{Layout}
-use Rattle.image_found.specs.declared.Checked.TheVariants.{Sound}
 use Rattle.image_found.specs.Checked.{checked}
 use Rattle.image_found.proofs.Finding.{sound_known}
 use Rattle.nav_strings.specs.Nodes.{IsNode}
@@ -40,7 +40,7 @@ listings-step ps f d a z h =
     ∙ ap (λ k. listing f ps k d ++ for_each (λ c. listing f ps c d) (counting (suc k) (z - (a + 1)))) (sym (add-one a))
 
 -- a node, and then its children, where f of the 64 levels are left
-pub listing_step : (bytes : List ℕ) (i : Layout) → checked bytes ≡ Sound i → (f x : ℕ) → 1 ≤ f → f ≤ 64
+pub listing_step : (bytes : List ℕ) (i : Layout) → checked bytes ≡ Ok i → (f x : ℕ) → 1 ≤ f → f ≤ 64
     → pairs_of bytes f x ≡ x ∷ (64 - f) ∷ listings (parents_in bytes) (f - 1) (64 - (f - 1)) (ones_before_in bytes x) (ones_before_in bytes (x + 1))
 unfolding listings
 listing_step bytes i found f x some most =
@@ -127,7 +127,7 @@ module _ (bytes : List ℕ) (x left : ℕ) (cs₀ out₀ cs out : List ℕ) (fil
         (ap length g.front ∙ front_length g.w out₀ (omega arith), omega arith)
 
     -- and it is listed
-    pub going_more : (i : Layout) → checked bytes ≡ Sound i → 2 ≤ left → left ≤ 64 → (cs' part part' : List ℕ) (n : ℕ)
+    pub going_more : (i : Layout) → checked bytes ≡ Ok i → 2 ≤ left → left ≤ 64 → (cs' part part' : List ℕ) (n : ℕ)
         → part ≡ take (length out - filled) (drop filled out)
         → Listed bytes (a + 1) (left - 1) (set cs (65 - left) (a + 1)) cs' part part' n
         → Going bytes x left cs₀ out₀ cs' (take filled out ++ (part' ++ drop (length out - filled) (drop filled out))) (filled + n) (a + 1)

@@ -1,5 +1,6 @@
 -- Each definition at a point where a wrong one would differ (document 01, its cases, limits and
 -- traps), by computation.
+use Rattle.std.specs.Prelude.{Err}
 use mathlib.Core.Path.{◌≡◌, refl}
 use mathlib.Core.Bool.{true, false}
 use mathlib.Core.List.{List, [], ◌∷◌, ◌++◌}
@@ -19,7 +20,6 @@ use Rattle.meaning.specs.Brackets.{brackets, tree_in, bracketing}
 use Rattle.meaning.specs.Text.{text_of, brackets_in, whole, broken, deeper, read_text}
 use Rattle.meaning.specs.Answers.{◌at◌when◌, came_to, refused_with, counts, first_holding, settle}
 use Rattle.meaning.specs.Tests.{wrong_count, check_rows}
-use Rattle.meaning.specs.declared.Verdict.TheVariants.{Refused}
 
 abbrev T : List ℕ
 T = 0 ∷ 1 ∷ 1 ∷ 1 ∷ 2 ∷ 2 ∷ 4 ∷ []
@@ -110,7 +110,7 @@ unfolding image_t string_of image_of_string is_header
 one-run = refl
 
 -- strings before counts: with both wrong, whatever the sums are
-strings-first : first_holding (drop 2 (check_rows (set (set image_t 516 0) 512 1) false)) ≡ Refused (record { code = 13; place = 1 })
+strings-first : first_holding (drop 2 (check_rows (set (set image_t 516 0) 512 1) false)) ≡ Err (record { code = 13; place = 1 })
 unfolding image_t string_of image_of_string header_word metres_in is_header are_strings wrong_kept wrong_sample check_rows first_holding
 strings-first = refl
 

@@ -1,6 +1,9 @@
 // What everything means (specs), and in code what a call answers, the codes and the limits.
 #![tactic(auto)]
 
+ghost use Rattle.std.specs.Prelude.{◌≡◌};
+ghost use Rattle.meaning.specs.Answers.{refused_with};
+
 // A code, the place that goes with it, and two counts. On refusal the counts are 0; on code 0 the
 // place is 0.
 #[repr(C)]
@@ -19,12 +22,17 @@ pub struct Refusal {
     pub place: u32,
 }
 
-// What tests in the order of the table find: none of them holds, or the refusal of the first that
-// does.
-#[derive(Clone, Copy)]
-pub enum Verdict {
-    Passed,
-    Refused(Refusal),
+impl From<Refusal> for Answer {
+    ghost from_gives = { λ refusal a. a ≡ refused_with refusal.code refusal.place };
+
+    fn from(refusal: Refusal) -> Answer {
+        Answer {
+            code: refusal.code,
+            place: refusal.place,
+            first: 0,
+            second: 0,
+        }
+    }
 }
 
 // The table of codes, by code. 7 is retired: its number is never used again.

@@ -1,19 +1,17 @@
 // The parent and the children of a node of a checked image, and whether it is a leaf.
 #![tactic(auto)]
 
-ghost use Rattle.std.specs.Prelude.{◌≡◌, ◌+◌, ◌≤◌, pos};
+ghost use Rattle.std.specs.Prelude.{Ok, ◌≡◌, ◌+◌, ◌≤◌, pos};
 ghost use Rattle.meaning.specs.Bytes.{value};
 ghost use Rattle.meaning.specs.Image.{parents_in};
 ghost use Rattle.meaning.specs.Questions.{answer, parent, first_child, last_child, degree, child, leaf};
 ghost use Rattle.theory.specs.Stages.{read_r1, read_r0};
 ghost use Rattle.theory.specs.ByStrings.{bit_of, ones_before_by};
-ghost use Rattle.image_found.specs.declared.Checked.TheVariants.{Sound};
 ghost use Rattle.image_found.specs.Checked.{checked};
-ghost use Rattle.ask_argument.specs.Values.{value_of};
 ghost use Rattle.nav_strings.specs.Nodes.{IsNode};
 ghost use Rattle.nav_children.specs.Children.{ChildrenAt};
 
-use ask_argument::{Signed, in_range, shifted};
+use ask_argument::{in_range, shifted};
 use image_layout::Layout;
 use nav_sibling_range::run_last;
 use nav_strings::{bit_r0, rank_r0, rank_r1, select_r0, select_r1};
@@ -49,7 +47,7 @@ pub fn is_leaf(b: &[u8], image: Layout, x: usize) -> u32
 // The ones of the tree string before its zero number z: node x has its children after those before
 // zero x, up to those before zero x + 1.
 pub fn ones_before_zero(b: &[u8], image: Layout, z: usize) -> usize
-    requires b_value { checked b.now ≡ Sound image }
+    requires b_value { checked b.now ≡ Ok image }
     requires le_z { 1 ≤ z }
     requires z_bound { z ≤ image.nodes + 1 }
     ensures { result ≡ ones_before_by (read_r1 b.now) (read_r0 b.now) z }
@@ -105,9 +103,9 @@ pub fn degree_of(b: &[u8], image: Layout, x: usize) -> u32
 }
 
 // Child number z of node x, 0 if there is none.
-pub fn child_number(b: &[u8], image: Layout, x: usize, z: Signed) -> u32
+pub fn child_number(b: &[u8], image: Layout, x: usize, z: i32) -> u32
     requires { IsNode b.now image x }
-    ensures { result ≡ answer (parents_in b.now) child x (value_of z) }
+    ensures { result ≡ answer (parents_in b.now) child x z }
 {
     if bit_r0(b, image.r0_block as usize, x) == 0 {
         return 0;

@@ -1,4 +1,5 @@
 -- The metres of a checked image, from where its layout has them.
+use Rattle.std.specs.Prelude.{Ok, None, Some}
 use mathlib.Core.Path.{◌≡◌, refl, sym, ap, ◌∙◌}
 use mathlib.Core.Bool.{Bool, true, false, true≢false, cond}
 use mathlib.Core.List.{List, []}
@@ -13,11 +14,9 @@ use Rattle.theory.specs.Bounds.{most_block}
 use Rattle.theory.specs.Layout.{word_at, sample_place}
 use Rattle.theory.specs.Stages.{Stages, nodes_of, runs_of, version_in, held_in, metres_block}
 use Rattle.theory.proofs.Stages.{image_stages, metres_read_lem, metres-at}
-use Rattle.image_layout.specs.declared.MetresAt.TheVariants.{Nowhere, From}
 use Rattle.image_layout.specs.declared.Layout.{Layout}
 use Rattle.image_layout.specs.Layout.{metres_at}
 use Rattle.image_layout.proofs.Laying.{from-version}
-use Rattle.image_found.specs.declared.Checked.TheVariants.{Sound}
 use Rattle.image_found.specs.Checked.{checked}
 use Rattle.image_found.proofs.Finding.{IsSound, sound_known}
 use Rattle.nav_strings.specs.Nodes.{IsNode}
@@ -27,7 +26,7 @@ entry_at : (ws : List ℕ) (x : ℕ) → 1 ≤ x → entry ws x ≡ get_or ws (x
 entry_at ws zero h = absurd (omega arith)
 entry_at ws (suc x) h = ap (λ i. get_or ws i 0) (let e : x ≡ suc x - 1 = omega arith in e)
 
-module _ (bytes : List ℕ) (image : Layout) (found : checked bytes ≡ Sound image) where
+module _ (bytes : List ℕ) (image : Layout) (found : checked bytes ≡ Ok image) where
   known : IsSound bytes image
   known = sound_known bytes image found
 
@@ -44,7 +43,7 @@ module _ (bytes : List ℕ) (image : Layout) (found : checked bytes ≡ Sound im
   pub presence : are_at image.metres ≡ present (metres_in bytes)
   presence = ap are_at at_is ∙ go (eqb (version_in bytes) 2) ∙ ap present (sym (metres_read_lem bytes long))
     where
-      go : (t : Bool) → are_at (cond t (From (metres_block (nodes_of bytes) (runs_of bytes))) Nowhere)
+      go : (t : Bool) → are_at (cond t (Some (metres_block (nodes_of bytes) (runs_of bytes))) None)
           ≡ present (cond t (some (numbers_in bytes (metres_block (nodes_of bytes) (runs_of bytes)) 0 (nodes_of bytes))) none)
       go true = refl
       go false = refl
@@ -57,7 +56,7 @@ entry-none (suc x) = refl
 
 module _ {bytes : List ℕ} {image : Layout} {x : ℕ} (n : IsNode bytes image x) where
   -- without metres
-  pub unmeasured : image.metres ≡ Nowhere → 0 ≡ entry (list_of (metres_in bytes)) x
+  pub unmeasured : image.metres ≡ None → 0 ≡ entry (list_of (metres_in bytes)) x
   unmeasured e = go (metres_in bytes) (sym (presence bytes image n.sound) ∙ ap are_at e)
     where
       go : (ms : Option (List ℕ)) → present ms ≡ false → 0 ≡ entry (list_of ms) x
@@ -71,7 +70,7 @@ module _ {bytes : List ℕ} {image : Layout} {x : ℕ} (n : IsNode bytes image x
     pub room : sample_place block (x - 1) + 4 ≤ length bytes
     pub value : word_at bytes (sample_place block (x - 1)) ≡ entry (list_of (metres_in bytes)) x
 
-  pub measure : (block : ℕ) → image.metres ≡ From block → Measure block
+  pub measure : (block : ℕ) → image.metres ≡ Some block → Measure block
   measure block e =
       let k = known bytes image n.sound in
       let h = (stages bytes image n.sound).header in

@@ -1,8 +1,6 @@
 -- Are there metres? By where a layout has them.
-use Rattle.std.specs.Prelude.{Bool, true, false}
-use Rattle.image_layout.specs.declared.MetresAt.{MetresAt}
-use Rattle.image_layout.specs.declared.MetresAt.TheVariants.{Nowhere, From}
+use Rattle.std.specs.Prelude.{ℕ, None, Some, Option, Bool, true, false}
 
-abbrev pub are_at : MetresAt → Bool
-are_at Nowhere = false
-are_at (From block) = true
+abbrev pub are_at : Option ℕ → Bool
+are_at None = false
+are_at (Some block) = true

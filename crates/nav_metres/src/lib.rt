@@ -7,18 +7,14 @@ ghost use Rattle.meaning.specs.Image.{list_of, metres_in};
 ghost use Rattle.nav_strings.specs.Nodes.{IsNode};
 ghost use Rattle.nav_metres.specs.Presence.{are_at};
 
-use image_layout::{Layout, MetresAt, sample_at};
+use image_layout::{Layout, sample_at};
 use image_words::word;
 
 // Does an image have metres? None are not 0 metres.
 pub fn has_metres(image: Layout) -> bool
     ensures { result ≡ are_at image.metres }
 {
-    let at = image.metres;
-    match at {
-        MetresAt::Nowhere => false,
-        MetresAt::From(_) => true,
-    }
+    image.metres.is_some()
 }
 
 // The metres of node x, one word for each node, and 0 where the image has none.
@@ -27,7 +23,7 @@ pub fn metres_of(b: &[u8], image: Layout, x: usize) -> u32
     ensures { result ≡ entry (list_of (metres_in b.now)) x }
 {
     let at = image.metres;
-    let MetresAt::From(block) = at else {
+    let Some(block) = at else {
         return 0;
     };
     word(b, sample_at(block as usize, x - 1))

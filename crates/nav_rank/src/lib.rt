@@ -23,10 +23,8 @@ fn ones_in_words(b: &[u8], at: usize, k: usize) -> u32
     ensures { result ≡ ones (bits_from b.now (8 * at) (64 * k)) }
 {
     let mut count: u32 = 0;
-    let mut i: usize = 0;
-    while i < k {
+    for i in 0..k {
         count += ones_in_word(b, at + 8 * i);
-        i += 1;
     }
     count
 }

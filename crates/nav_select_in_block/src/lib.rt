@@ -42,12 +42,10 @@ pub fn block_of(b: &[u8], bits_block: usize, n: usize, j: usize, k: usize) -> us
     ensures { (j ≤ result) × (result < string_blocks n) × (ones_to b.now bits_block (4000 * result) < k) × (k ≤ ones_to b.now bits_block (4000 * (result + 1))) }
 {
     let last = last_block(n);
-    let mut i = j;
-    while i < last {
+    for i in j..last {
         if k <= word(b, 512 * (bits_block + i + 1)) as usize {
             return i;
         }
-        i += 1;
     }
-    i
+    last
 }

@@ -12,7 +12,7 @@ use Rattle.theory.specs.Layout.{bit_place}
 use Rattle.theory.specs.ByStrings.{bit_of}
 use Rattle.theory.specs.Stages.{read_r1}
 use Rattle.image_layout.specs.declared.Layout.{Layout}
-use Rattle.bits_nearest.specs.Found.{LastOne, FirstOne}
+use Rattle.bits_nearest.specs.Found.{IsLast, IsFirst}
 use Rattle.nav_strings.specs.Nodes.{IsNode}
 use Rattle.nav_strings.proofs.Bits.{bit1}
 use Rattle.nav_sibling_range.proofs.Counting.{left_next, position_of_one, zero-not-last}
@@ -111,19 +111,20 @@ module _ {bytes : List ℕ} {i : Layout} {x : ℕ} (node : IsNode bytes i x) whe
       ap (bit_place 1) (let f : y - 1 ≡ x - 1 - (x - 1) % 4000 + k = omega arith in f) ∙ place_in (x - 1) k l
       )
 
-  pub near_left : (r : ℕ) → LastOne bytes bits n r → (r ≡ 0 → ⊥) → x - 1 - n + r ≡ position r1 (ones_left r1 x)
-  near_left r one some =
+  pub near_left : (r : ℕ) → IsLast bytes bits n r → x - 1 - n + r ≡ position r1 (ones_left r1 x)
+  near_left r one =
       let p = x - 1 - n + r in
       let w = one.within in
+      let s = one.some in
       met_left p (omega arith) (omega arith)
       (λ y k m. in_block y (y - (x - n)) (omega arith) (omega arith) ∙ one.clear (y - (x - n)) (omega arith) (omega arith))
-      (in_block p (r - 1) (omega arith) (omega arith) ∙ one.found (omega arith))
+      (in_block p (r - 1) (omega arith) (omega arith) ∙ one.found)
 
-  pub near_right : (r : ℕ) → FirstOne bytes bits n r → (r ≡ 4000 → ⊥) → x - n + r ≡ position r1 (ones_left r1 x + 1)
-  near_right r one some =
+  pub near_right : (r : ℕ) → IsFirst bytes bits n r → x - n + r ≡ position r1 (ones_left r1 x + 1)
+  near_right r one =
       let p = x - n + r in
       let w = one.within in
       let f = one.from in
       met_right p (omega arith)
       (λ y k m. in_block y (y - (x - n)) (omega arith) (omega arith) ∙ one.clear (y - (x - n)) (omega arith) (omega arith))
-      (in_block p r (omega arith) (omega arith) ∙ one.found (omega arith))
+      (in_block p r (omega arith) (omega arith) ∙ one.found)

@@ -1,9 +1,10 @@
 -- What the strings of a sound image give: the answers that the tree itself gives, each from ones
 -- left of a position and positions of ones.
+use Rattle.std.specs.Prelude.{Ok}
 use mathlib.Core.Path.{◌≡◌, sym, ap, ap₂, ◌∙◌, subst}
 use mathlib.Core.Bool.{true}
 use mathlib.Core.List.{List}
-use Prim.Native.Nat.{ℕ, zero, suc, ◌+◌, ◌-◌, ◌≤◌, ◌<◌}
+use Prim.Native.Nat.{ℕ, zero, suc, ◌+◌, ◌≤◌, ◌<◌}
 use native.Mathlib.Omega.{arith}
 use lib.IntN.{ℤ}
 use lib.ListN.{length}
@@ -20,7 +21,6 @@ use Rattle.theory.proofs.Forms.{length-parents, string-parents}
 use Rattle.theory.proofs.Stages.{image_stages, parts_read}
 use Rattle.theory.proofs.ByStrings.{answers_by_strings}
 use Rattle.image_layout.specs.declared.Layout.{Layout}
-use Rattle.image_found.specs.declared.Checked.TheVariants.{Sound}
 use Rattle.image_found.specs.Checked.{checked}
 use Rattle.image_found.proofs.Finding.{sound_known}
 use Rattle.bits_select.proofs.Reaching.{place-le}
@@ -51,7 +51,7 @@ pub record Strings (bytes : List ℕ) (i : Layout) : Type 0 where
   pub ended0 : Ended i.runs (read_r0 bytes)
   pub own : (ask : Ask) (x : ℕ) (z : ℤ) → 1 ≤ x → x ≤ i.nodes → answer (parents_in bytes) ask x z ≡ by_strings (read_r1 bytes) (read_r0 bytes) ask x z
 
-pub strings : (bytes : List ℕ) (i : Layout) → checked bytes ≡ Sound i → Strings bytes i
+pub strings : (bytes : List ℕ) (i : Layout) → checked bytes ≡ Ok i → Strings bytes i
 strings bytes i found =
     let k = sound_known bytes i found in
     let s = image_stages bytes k.image in
@@ -75,7 +75,7 @@ more1 {bytes} {i} {x} node =
     let s = strings bytes i node.sound in
     left_missing i.runs (read_r1 bytes) x s.ended1 node.some (omega (arith, node.most, s.length1))
 
-module _ (bytes : List ℕ) (i : Layout) (found : checked bytes ≡ Sound i) where
+module _ (bytes : List ℕ) (i : Layout) (found : checked bytes ≡ Ok i) where
   abbrev r1 : List Bit
   r1 = read_r1 bytes
 

@@ -1,10 +1,9 @@
 // Where a run of siblings begins and ends: the ones of R1 on either side of a node.
 #![tactic(auto)]
 
-ghost use Rattle.std.specs.Prelude.{◌≡◌, ◌+◌, ◌≤◌};
+ghost use Rattle.std.specs.Prelude.{Ok, ◌≡◌, ◌+◌, ◌≤◌};
 ghost use Rattle.theory.specs.Rank.{ones_left, position};
 ghost use Rattle.theory.specs.Stages.{read_r1};
-ghost use Rattle.image_found.specs.declared.Checked.TheVariants.{Sound};
 ghost use Rattle.image_found.specs.Checked.{checked};
 ghost use Rattle.nav_strings.specs.Nodes.{IsNode};
 
@@ -14,7 +13,7 @@ use nav_strings::{rank_r1, select_r1};
 
 // The position of one number k of R1, 0 for number 0: the last node of that run of siblings.
 fn run_end(b: &[u8], image: Layout, k: usize) -> usize
-    requires b_value { checked b.now ≡ Sound image }
+    requires b_value { checked b.now ≡ Ok image }
     requires k_le_runs { k ≤ image.runs }
     ensures { result ≡ position (read_r1 b.now) k }
 {
@@ -40,10 +39,9 @@ pub fn run_before(b: &[u8], image: Layout, x: usize) -> usize
 {
     let i = x - 1;
     let n = i % 4000;
-    let found = last_one(b, bits_at(1 + i / 4000), n);
-    if found == 0 {
+    let Some(found) = last_one(b, bits_at(1 + i / 4000), n) else {
         return far_before(b, image, x);
-    }
+    };
     i - n + found
 }
 
@@ -63,9 +61,8 @@ pub fn run_last(b: &[u8], image: Layout, x: usize) -> usize
 {
     let i = x - 1;
     let n = i % 4000;
-    let found = first_one(b, bits_at(1 + i / 4000), n);
-    if found == 4000 {
+    let Some(found) = first_one(b, bits_at(1 + i / 4000), n) else {
         return far_last(b, image, x);
-    }
+    };
     x - n + found
 }

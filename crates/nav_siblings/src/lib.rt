@@ -4,10 +4,9 @@
 ghost use Rattle.std.specs.Prelude.{◌≡◌, pos};
 ghost use Rattle.meaning.specs.Image.{parents_in};
 ghost use Rattle.meaning.specs.Questions.{answer, next_sibling, previous_sibling, rank, sibling};
-ghost use Rattle.ask_argument.specs.Values.{value_of};
 ghost use Rattle.nav_strings.specs.Nodes.{IsNode};
 
-use ask_argument::{Signed, shifted};
+use ask_argument::shifted;
 use image_layout::Layout;
 use nav_sibling_range::{run_before, run_last};
 use nav_strings::bit_r1;
@@ -51,9 +50,9 @@ pub fn child_rank(b: &[u8], image: Layout, x: usize) -> u32
 // The sibling of node x that is z places to the right, to the left where z is negative, 0 if there
 // is none. Siblings end where a run of ones ends: to the left the run before theirs, to the right
 // their own.
-pub fn sibling_at(b: &[u8], image: Layout, x: usize, z: Signed) -> u32
+pub fn sibling_at(b: &[u8], image: Layout, x: usize, z: i32) -> u32
     requires { IsNode b.now image x }
-    ensures { result ≡ answer (parents_in b.now) sibling x (value_of z) }
+    ensures { result ≡ answer (parents_in b.now) sibling x z }
 {
     let y = shifted(x, z);
     if y < x {

@@ -1,4 +1,5 @@
 -- The two strings of an image that the check found sound are as rank and select need them.
+use Rattle.std.specs.Prelude.{Ok}
 use mathlib.Core.Path.{◌≡◌, sym, ap, ◌∙◌, subst}
 use mathlib.Core.Bool.{true}
 use mathlib.Core.List.{List}
@@ -12,7 +13,6 @@ use Rattle.theory.specs.Stages.{CountsAndPadding, Sampled, blocks_of_samples, re
 use Rattle.theory.proofs.TreeImages.{is_image_lem, image-size, image_most}
 use Rattle.theory.proofs.Stages.{image_stages}
 use Rattle.image_layout.specs.declared.Layout.{Layout}
-use Rattle.image_found.specs.declared.Checked.TheVariants.{Sound}
 use Rattle.image_found.specs.Checked.{checked}
 use Rattle.image_found.proofs.Finding.{sound_known}
 
@@ -36,7 +36,7 @@ image-length bytes e =
     let most = image_most t r.1 in
     (omega arith, omega arith)
 
-module _ (bytes : List ℕ) (i : Layout) (found : checked bytes ≡ Sound i) where
+module _ (bytes : List ℕ) (i : Layout) (found : checked bytes ≡ Ok i) where
   -- what is read of them
   pub in_r1 : (f : List Bit → ℕ) (x : ℕ) → x ≡ f (string_in bytes 1 0 i.nodes) → x ≡ f (read_r1 bytes)
   in_r1 f x e = e ∙ ap (λ j. f (string_in bytes 1 0 j.nodes)) (sound_known bytes i found).read

@@ -1,12 +1,11 @@
 // The bits of R1 and R0 of a checked image, and rank and select in them.
 #![tactic(auto)]
 
-ghost use Rattle.std.specs.Prelude.{◌≡◌, ◌+◌, ◌≤◌};
+ghost use Rattle.std.specs.Prelude.{Ok, ◌≡◌, ◌+◌, ◌≤◌};
 ghost use Rattle.meaning.specs.Bytes.{value};
 ghost use Rattle.theory.specs.Rank.{ones_left, position};
 ghost use Rattle.theory.specs.Stages.{nodes_of, read_r1, read_r0, r0_block as r0_begins};
 ghost use Rattle.theory.specs.ByStrings.{bit_of};
-ghost use Rattle.image_found.specs.declared.Checked.TheVariants.{Sound};
 ghost use Rattle.image_found.specs.Checked.{checked, layout_in};
 ghost use Rattle.nav_strings.specs.Nodes.{IsNode};
 
@@ -43,7 +42,7 @@ pub fn rank_r1(b: &[u8], image: Layout, x: usize) -> usize
 
 // The ones of R0 left of bit x. R0 has one bit more than there are nodes.
 pub fn rank_r0(b: &[u8], image: Layout, x: usize) -> usize
-    requires b_value { checked b.now ≡ Sound image }
+    requires b_value { checked b.now ≡ Ok image }
     requires le_x { 1 ≤ x }
     requires x_bound { x ≤ image.nodes + 1 }
     ensures { result ≡ ones_left (read_r0 b.now) x }
@@ -54,7 +53,7 @@ pub fn rank_r0(b: &[u8], image: Layout, x: usize) -> usize
 
 // The position in R1 of its k-th one.
 pub fn select_r1(b: &[u8], image: Layout, k: usize) -> usize
-    requires b_value { checked b.now ≡ Sound image }
+    requires b_value { checked b.now ≡ Ok image }
     requires le_k { 1 ≤ k }
     requires k_le_runs { k ≤ image.runs }
     ensures { result ≡ position (read_r1 b.now) k }
@@ -71,7 +70,7 @@ pub fn select_r1(b: &[u8], image: Layout, k: usize) -> usize
 
 // The position in R0 of its k-th one.
 pub fn select_r0(b: &[u8], image: Layout, k: usize) -> usize
-    requires b_value { checked b.now ≡ Sound image }
+    requires b_value { checked b.now ≡ Ok image }
     requires le_k { 1 ≤ k }
     requires k_le_runs { k ≤ image.runs }
     ensures { result ≡ position (read_r0 b.now) k }

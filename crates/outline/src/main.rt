@@ -7,7 +7,8 @@ use outline_page::outline;
 use std::io::Read;
 
 // Reads until the buffer is full, the input ends or a read fails, and answers how many bytes it put
-// at the start of the buffer.
+// at the start of the buffer. The program `cases` has its own: a failed read ends that program, and
+// here what was read before it is outlined.
 fn read_full(input: &mut impl Read, buffer: &mut [u8]) -> usize
     ensures { result ≤ length buffer.new }
 {

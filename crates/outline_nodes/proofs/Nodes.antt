@@ -3,16 +3,18 @@
 use mathlib.Core.Path.{◌≡◌, refl, sym, ap, ◌∙◌, subst}
 use mathlib.Core.List.{List, [], ◌∷◌, ◌++◌, append_assoc, append-nil}
 use mathlib.Core.Option.{Option}
-use Prim.Native.Nat.{ℕ, suc, ◌+◌, ◌≤◌, ◌<◌}
+use Prim.Native.Nat.{ℕ, suc, ◌+◌, ◌*◌, ◌/◌, ◌≤◌, ◌<◌}
 use native.Mathlib.Numerals.{add-one}
 use native.Mathlib.Omega.{arith}
+use native.Mathlib.Decide.{dec_le}
 use lib.IntN.{pos}
 use lib.ListN.{length, get_or, drop, length-append, length-drop, drop_of_length-le}
 use lib.Seq.{drop-cons}
 use Rattle.meaning.specs.Questions.{answer, degree}
-use Rattle.outline_text.specs.Text.{Puts}
+use Rattle.outline_text.specs.declared.Page.{Page}
+use Rattle.outline_text.specs.Text.{Room, Writes}
 use Rattle.outline_heading.specs.Lines.{node_line, node_lines, Pairs}
-use Rattle.outline_text.proofs.Putting.{both_put, put_as, put_length}
+use Rattle.outline_text.proofs.Putting.{nothing_written, both_written, written_as, room_left}
 
 -- ---- pairs
 
@@ -39,36 +41,46 @@ pair_at n pairs i h l =
 
 -- ---- lines
 
--- of the lines of all pairs, those before pair i are put from `from` on, up to `at`
-pub record Half (ps : List ℕ) (ms : Option (List ℕ)) (pairs : List ℕ) (n from : ℕ) (t : List ℕ) (at i : ℕ) (u : List ℕ) : Type 0 where
+-- of the lines of all pairs, those before pair k are on the page
+pub record Half (ps : List ℕ) (ms : Option (List ℕ)) (pairs : List ℕ) (n : ℕ) (first : Page) (k : ℕ) (page : Page) : Type 0 where
   pub lines : List ℕ
-  pub put : Puts lines from at t u
-  pub whole : lines ++ node_lines ps ms (drop i pairs) ≡ node_lines ps ms pairs
-  pub rest : Pairs n (drop i pairs)
+  pub put : Writes lines first page
+  pub whole : lines ++ node_lines ps ms (drop (2 * k) pairs) ≡ node_lines ps ms pairs
+  pub rest : Pairs n (drop (2 * k) pairs)
 
-module _ (ps : List ℕ) (ms : Option (List ℕ)) (pairs : List ℕ) (n from : ℕ) (t : List ℕ) where
-  pub none_put : Pairs n pairs → Half ps ms pairs n from t from 0 t
-  none_put h = record { lines = []; put = record { text = refl; place = omega arith }; whole = refl; rest = h }
+module _ (ps : List ℕ) (ms : Option (List ℕ)) (pairs : List ℕ) (n : ℕ) (first : Page) where
+  pub none_put : Pairs n pairs → first.at ≤ length first.text.now → Half ps ms pairs n first 0 first
+  none_put h fits = record { lines = []; put = nothing_written first fits; whole = refl; rest = h }
 
-  module _ (at i : ℕ) (u : List ℕ) (half : Half ps ms pairs n from t at i u) where
-    pub all_put : length pairs ≤ i → Puts (node_lines ps ms pairs) from at t u
+  module _ (k : ℕ) (page : Page) (half : Half ps ms pairs n first k page) where
+    pub all_put : length pairs / 2 ≤ k → Writes (node_lines ps ms pairs) first page
     unfolding node_lines
-    all_put h =
-        put_as (sym (append-nil half.lines) ∙ ap (λ l. half.lines ++ node_lines ps ms l) (sym (drop_of_length-le pairs {i = i} h)) ∙ half.whole) half.put
+    all_put h = elim (dec_le (length pairs) (2 * k)) [
+      | yes l ↦
+          written_as (sym (append-nil half.lines) ∙ ap (λ l. half.lines ++ node_lines ps ms l) (sym (drop_of_length-le pairs {i = 2 * k} l)) ∙ half.whole) half.put
+      | no l ↦ absurd (omega (arith, (pair_at n pairs (2 * k) half.rest (omega arith)).second))
+    ]
 
-    module _ (l : i < length pairs) where
-      pub here : PairAt n pairs i
-      here = pair_at n pairs i half.rest l
+    module _ (l : k < length pairs / 2) where
+      pub here : PairAt n pairs (2 * k)
+      here = pair_at n pairs (2 * k) half.rest (omega arith)
 
       abbrev line : List ℕ
-      line = node_line ms (get_or pairs i 0) (get_or pairs (i + 1) 0) (answer ps degree (get_or pairs i 0) (pos 0))
+      line = node_line ms (get_or pairs (2 * k) 0) (get_or pairs (2 * k + 1) 0) (answer ps degree (get_or pairs (2 * k) 0) (pos 0))
 
-      grown : (half.lines ++ line) ++ node_lines ps ms (drop (i + 2) pairs) ≡ node_lines ps ms pairs
+      grown : (half.lines ++ line) ++ node_lines ps ms (drop (2 * k + 2) pairs) ≡ node_lines ps ms pairs
       unfolding node_lines
       grown = append_assoc half.lines line _ ∙ ap (λ r. half.lines ++ node_lines ps ms r) (sym here.here) ∙ half.whole
 
-      pub line-room : from + length (node_lines ps ms pairs) ≤ length t → at + length line ≤ length u
-      line-room h = omega (arith, put_length half.put, half.put.place, simp length-append at (ap length grown))
+      pub line-room : Room (node_lines ps ms pairs) first → Room line page
+      line-room h = omega (arith, room_left half.put, simp length-append at (ap length grown))
 
-      pub line_put : (after : ℕ) (v : List ℕ) → Puts line at after u v → Half ps ms pairs n from t after (i + 2) v
-      line_put after v p = record { lines = half.lines ++ line; put = both_put half.put p; whole = grown; rest = here.after }
+      pub line_put : (after : Page) → Writes line page after → Half ps ms pairs n first (k + 1) after
+      line_put after p =
+          let e : 2 * k + 2 ≡ 2 * (k + 1) = omega arith in
+          record {
+            lines = half.lines ++ line;
+            put = both_written half.put p;
+            whole = ap (λ j. (half.lines ++ line) ++ node_lines ps ms (drop j pairs)) (sym e) ∙ grown;
+            rest = subst (λ j. Pairs n (drop j pairs)) e here.after;
+          }

@@ -1,4 +1,5 @@
 -- What is printed for an image, from what the check found and what the listing of the root gave.
+use Rattle.std.specs.Prelude.{Ok, Err}
 use mathlib.Core.Path.{◌≡◌, refl, sym, ap, ap₂, ◌∙◌, subst}
 use mathlib.Core.Bool.{false, cond}
 use mathlib.Core.List.{List, [], ◌++◌}
@@ -8,14 +9,12 @@ use borrow.Author.Tests.{lt-ltb, le-ltb, eq-eqb, ne_eqb}
 use lib.ListN.{length, get_or, take, drop, replicate, length-replicate}
 use lib.Seq.{take_at}
 use Rattle.meaning.specs.declared.Answer.{Answer}
-use Rattle.meaning.specs.Answers.{refused_with, counts, came_to, first_holding, written}
+use Rattle.meaning.specs.Answers.{Verdict, refused_with, counts, came_to, first_holding, written}
 use Rattle.meaning.specs.Blocks.{blocks_in}
 use Rattle.meaning.specs.Trees.{nodes}
 use Rattle.meaning.specs.Image.{list_of, parents_in, metres_in}
 use Rattle.meaning.specs.Listing.{listing, deep}
 use Rattle.meaning.specs.declared.Refusal.{Refusal}
-use Rattle.meaning.specs.declared.Verdict.{Verdict}
-use Rattle.meaning.specs.declared.Verdict.TheVariants as Verdict
 use Rattle.meaning.specs.Tests.{check_rows}
 use Rattle.calls.specs.Calls.{check_image, list_image}
 use Rattle.theory.proofs.Images.{measured-word}
@@ -23,9 +22,7 @@ use Rattle.theory.proofs.TreeImages.{metres_in_lem, is_image_lem}
 use Rattle.theory.proofs.Stages.{image_stages}
 use Rattle.image_layout.specs.declared.Layout.{Layout}
 use Rattle.theory.proofs.Codes.{check_refuses, first-other}
-use Rattle.image_found.specs.declared.Checked.{Checked}
-use Rattle.image_found.specs.declared.Checked.TheVariants.{Sound, Refused}
-use Rattle.image_found.specs.Checked.{answered, checked, found_by, layout_in}
+use Rattle.image_found.specs.Checked.{Checked, answered, checked, found_by, layout_in}
 use Rattle.image_found.proofs.Finding.{sound_known}
 use Rattle.call_check_image.proofs.Calling.{image-answered}
 use Rattle.list_measure.specs.Levels.{ones_before_in, sized, size_of}
@@ -34,22 +31,21 @@ use Rattle.list_measure.proofs.Numbers.{ones_before_in_mono, ones_before_in_kids
 use Rattle.call_list.proofs.Calling.{list_deep, list_given}
 use Rattle.outline_heading.specs.Lines.{heading, node_lines, refusal}
 use Rattle.outline_page.specs.Outline.{printed, outline_of}
-use Rattle.outline_text.specs.Text.{Puts}
-use Rattle.outline_text.proofs.Putting.{put_first, all-written}
+use Rattle.outline_text.proofs.Putting.{all-written}
 use Rattle.outline_page.proofs.Root.{Whole, root-whole}
 
 -- ---- a refusal has a code
 
-clash : {X : Type 0} {i : Layout} {r : Refusal} → Sound i ≡ Refused r → X
+clash : {X : Type 0} {i : Layout} {r : Refusal} → Ok i ≡ Err r → X
 clash e = let z : ◌≡◌ {A = ℕ} 0 1 = cc in absurd (omega arith)
 
-checked_coded : (bytes : List ℕ) (r : Refusal) → checked bytes ≡ Refused r → r.code ≡ 0 → ⊥
+checked_coded : (bytes : List ℕ) (r : Refusal) → checked bytes ≡ Err r → r.code ≡ 0 → ⊥
 unfolding checked check_rows
 checked_coded bytes r e = by_verdict (first_holding (check_rows bytes false)) refl e
   where
-    by_verdict : (v : Verdict) → first_holding (check_rows bytes false) ≡ v → found_by v (layout_in bytes) ≡ Refused r → r.code ≡ 0 → ⊥
-    by_verdict Verdict.Passed f g z = clash g
-    by_verdict (Verdict.Refused x) f g z =
+    by_verdict : (v : Verdict) → first_holding (check_rows bytes false) ≡ v → found_by v (layout_in bytes) ≡ Err r → r.code ≡ 0 → ⊥
+    by_verdict (Ok _) f g z = clash g
+    by_verdict (Err x) f g z =
         let same : x ≡ r = cc in
         first-other 0 (check_rows bytes false) (check_refuses bytes false [] tt) f (ap (λ y. y.code) same ∙ z)
 
@@ -93,12 +89,12 @@ module _ (bytes : List ℕ) (fits : length bytes ≤ 49152) where
   by_check : (c : Checked) → checked bytes ≡ c → (check_image bytes).answer ≡ answered c
   by_check c e = sym (ap (λ o. o.answer) (image-answered bytes)) ∙ ap answered e
 
-  pub outline_refused : (r : Refusal) → checked bytes ≡ Refused r → outline_of bytes ≡ refusal (refused_with r.code r.place)
+  pub outline_refused : (r : Refusal) → checked bytes ≡ Err r → outline_of bytes ≡ refusal (refused_with r.code r.place)
   outline_refused r e =
       let answer = refused_with r.code r.place in
-      by_answer answer (by_check (Refused r) e) ∙ not_found bytes answer _ _ (checked_coded bytes r e)
+      by_answer answer (by_check (Err r) e) ∙ not_found bytes answer _ _ (checked_coded bytes r e)
 
-  module _ (i : Layout) (e : checked bytes ≡ Sound i) where
+  module _ (i : Layout) (e : checked bytes ≡ Ok i) where
     abbrev pub first : List ℕ
     first = heading i.nodes i.runs i.blocks
 
@@ -111,7 +107,7 @@ module _ (bytes : List ℕ) (fits : length bytes ≤ 49152) where
         ap (λ b. heading i.nodes i.runs b) ((image_stages bytes k.image).header.needed ∙ ap (λ j. j.blocks) (sym k.read))
 
     pub outline_many : 4000 < i.nodes → outline_of bytes ≡ first
-    outline_many h = by_answer counted (by_check (Sound i) e) ∙ many bytes counted _ _ refl h ∙ top_is
+    outline_many h = by_answer counted (by_check (Ok i) e) ∙ many bytes counted _ _ refl h ∙ top_is
 
     -- ---- and what the listing gave
 
@@ -150,7 +146,7 @@ module _ (bytes : List ℕ) (fits : length bytes ≤ 49152) where
       zeros-size = length-replicate (2 * i.nodes) 0
 
       outlined : outline_of bytes ≡ printed bytes counted (list_image bytes 1 zeros).answer (list_image bytes 1 zeros).lent
-      outlined = by_answer counted (by_check (Sound i) e)
+      outlined = by_answer counted (by_check (Ok i) e)
 
       by_depth : (d : ℕ) → deep pairs ≡ d → Listed (list_image bytes 1 out).answer (list_image bytes 1 out).lent
       by_depth (suc w) d = subst (λ r. Listed r.answer r.lent) (sym (too_deep_lem w d out)) (record {
@@ -178,16 +174,9 @@ module _ (bytes : List ℕ) (fits : length bytes ≤ 49152) where
 
 -- ---- the metres of an image, where it has any, are words
 
-pub metres-words : (bytes : List ℕ) (i : Layout) → checked bytes ≡ Sound i → (k : ℕ) → get_or (list_of (metres_in bytes)) k 0 < 2 ^ 32
+pub metres-words : (bytes : List ℕ) (i : Layout) → checked bytes ≡ Ok i → (k : ℕ) → get_or (list_of (metres_in bytes)) k 0 < 2 ^ 32
 metres-words bytes i e k =
     let r = (is_image_lem bytes).0 (sound_known bytes i e).image in
     let c = r.0 in
     let ms : metres_in bytes ≡ c.metres = ap metres_in (sym r.2) ∙ metres_in_lem c r.1 in
     subst (λ m. get_or (list_of m) k 0 < 2 ^ 32) (sym ms) (measured-word (nodes c.tree) c.metres r.1.measured k)
-
--- ---- what was put is the outline
-
-pub put_outline : {text after : List ℕ} {r : ℕ} (bytes xs : List ℕ) → outline_of bytes ≡ xs → Puts xs 0 r text after → length xs ≤ length text
-    → (after ≡ written (outline_of bytes) text) × (r ≡ length (outline_of bytes))
-put_outline {text} {after} {r} bytes xs e p h =
-    let w = put_first p h in (w.0 ∙ ap (λ ys. written ys text) (sym e), w.1 ∙ ap length (sym e))

@@ -1,5 +1,6 @@
 -- The listing of an image's root, if no node is at depth 64, has two numbers for each node of the
 -- tree.
+use Rattle.std.specs.Prelude.{Ok}
 use mathlib.Core.Path.{◌≡◌, refl, sym, ap, ap₂, ◌∙◌, subst}
 use mathlib.Core.List.{List, [], ◌∷◌}
 use Prim.Native.Nat.{ℕ, suc, ◌+◌, ◌*◌, ◌≤◌}
@@ -15,7 +16,6 @@ use Rattle.theory.proofs.TreeImages.{is_image_lem, parents_in_lem}
 use Rattle.theory.proofs.Addresses.{first_node}
 use Rattle.theorems.proofs.Promises.{own_listing}
 use Rattle.image_layout.specs.declared.Layout.{Layout}
-use Rattle.image_found.specs.declared.Checked.TheVariants.{Sound}
 use Rattle.image_found.specs.Checked.{checked}
 use Rattle.image_found.proofs.Finding.{sound_known}
 use Rattle.list_measure.proofs.Numbers.{parents-count}
@@ -69,7 +69,7 @@ tree-whole t some e =
       nodes = lists-pairs t (depth v) (everything v) pairs lists (own.0.0 e);
     }
 
-pub root-whole : (bytes : List ℕ) (i : Layout) → checked bytes ≡ Sound i → 1 ≤ i.nodes
+pub root-whole : (bytes : List ℕ) (i : Layout) → checked bytes ≡ Ok i → 1 ≤ i.nodes
     → deep (listing 65 (parents_in bytes) 1 0) ≡ 0 → Whole i.nodes (listing 65 (parents_in bytes) 1 0)
 root-whole bytes i found some e =
     let r = (is_image_lem bytes).0 (sound_known bytes i found).image in

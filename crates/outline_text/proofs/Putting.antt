@@ -7,10 +7,11 @@ use native.Mathlib.Numerals.{add-one}
 use native.Mathlib.Omega.{arith}
 use borrow.Author.Tests.{lt-ltb, le-ltb, ltb-true, ltb-false}
 use lib.Dec.{ltb}
-use lib.ListN.{length, get_or, set, take, drop, length-append, length-take, drop_of_length-le}
-use lib.Seq.{sets, length-sets, sets-eq, take_all, take-suc}
+use lib.ListN.{length, set, drop, length-append, drop_of_length-le}
+use lib.Seq.{sets, length-sets, sets-eq}
 use Rattle.meaning.specs.Answers.{written}
-use Rattle.outline_text.specs.Text.{unit, digits, decimal, Puts}
+use Rattle.outline_text.specs.declared.Page.{Page}
+use Rattle.outline_text.specs.Text.{unit, digits, decimal, Writes}
 
 -- ---- pieces
 
@@ -18,43 +19,42 @@ sets_append : (xs ys t : List ℕ) (i : ℕ) → sets t i (xs ++ ys) ≡ sets (s
 sets_append [] ys t i = ap (λ k. sets t k ys) (let e : i ≡ i + 0 = omega arith in e)
 sets_append (x ∷ xs) ys t i = sets_append xs ys (set t i x) (suc i) ∙ ap (λ k. sets (sets (set t i x) (suc i) xs) k ys) (let e : suc i + length xs ≡ i + suc (length xs) = omega arith in e)
 
-pub both_put : {xs ys t u v : List ℕ} {at mid next : ℕ} → Puts xs at mid t u → Puts ys mid next u v → Puts (xs ++ ys) at next t v
-both_put {xs} {ys} {t} {u} {v} {at} {mid} {next} p q = record {
-  text = q.text ∙ ap₂ (λ w k. sets w k ys) p.text p.place ∙ sym (sets_append xs ys t at);
-  place = simp length-append (omega (arith, p.place, q.place));
+-- nothing, and what is written after what was written
+pub nothing_written : (p : Page) → p.at ≤ length p.text.now → Writes [] p p
+nothing_written p h = record { same_text = refl; text = refl; place = omega arith; fits = h }
+
+pub both_written : {xs ys : List ℕ} {p q r : Page} → Writes xs p q → Writes ys q r → Writes (xs ++ ys) p r
+both_written {xs} {ys} {p} {q} {r} v w = record {
+  same_text = w.same_text ∙ v.same_text;
+  text = w.text ∙ ap₂ (λ t k. sets t k ys) v.text v.place ∙ sym (sets_append xs ys p.text.now p.at);
+  place = simp length-append (omega (arith, v.place, w.place));
+  fits = w.fits;
 }
 
-pub put_as : {xs ys t u : List ℕ} {at next : ℕ} → xs ≡ ys → Puts xs at next t u → Puts ys at next t u
-put_as {xs} {ys} {t} {u} {at} {next} e p = subst (λ zs. Puts zs at next t u) e p
+pub written_as : {xs ys : List ℕ} {p q : Page} → xs ≡ ys → Writes xs p q → Writes ys p q
+written_as {xs} {ys} {p} {q} e w = subst (λ zs. Writes zs p q) e w
 
-pub one_put : (x at : ℕ) (t : List ℕ) → Puts (x ∷ []) at (at + 1) t (set t at x)
-one_put x at t = record { text = refl; place = refl }
+-- the page has as much less room as was written
+same_length : {xs : List ℕ} {p q : Page} → Writes xs p q → length q.text.now ≡ length p.text.now
+same_length {xs} {p} {q} w = ap length w.text ∙ length-sets p.text.now p.at xs
 
-pub put_length : {xs t u : List ℕ} {at next : ℕ} → Puts xs at next t u → length u ≡ length t
-put_length {xs} {t} {u} {at} p = ap length p.text ∙ length-sets t at xs
+pub room_left : {xs : List ℕ} {p q : Page} → Writes xs p q → p.at + length xs + length q.text.now ≡ q.at + length p.text.now
+room_left w = omega (arith, w.place, same_length w)
 
 -- from the first place on
-pub put_first : {xs t u : List ℕ} {next : ℕ} → Puts xs 0 next t u → length xs ≤ length t → (u ≡ written xs t) × (next ≡ length xs)
-put_first {xs} {t} {u} {next} p h = (p.text ∙ sets-eq xs t 0 (omega arith) ∙ ap (λ (k : ℕ). xs ++ drop k t) (let e : 0 + length xs ≡ length xs = omega arith in e), omega (arith, p.place))
+pub written_first : {xs : List ℕ} {p q : Page} → p.at ≡ 0 → Writes xs p q → (q.text.now ≡ written xs p.text.now) × (q.at ≡ length xs)
+written_first {xs} {p} {q} z w =
+    let t = p.text.now in (
+      w.text
+          ∙ ap (λ k. sets t k xs) z
+          ∙ sets-eq xs t 0 (omega (arith, z, w.place, w.fits, same_length w))
+          ∙ ap (λ (k : ℕ). xs ++ drop k t) (let e : 0 + length xs ≡ length xs = omega arith in e),
+      omega (arith, z, w.place),
+    )
 
 -- a list that is written whole, over any other of its length
 pub all-written : (xs t : List ℕ) → length t ≤ length xs → written xs t ≡ xs
 all-written xs t h = ap (λ l. xs ++ l) (drop_of_length-le t {i = length xs} h) ∙ append-nil xs
-
--- the front of a list, byte by byte
-module _ (bytes : List ℕ) (at : ℕ) (t : List ℕ) where
-  pub nothing_put : Puts (take 0 bytes) at (at + 0) t t
-  nothing_put = record { text = refl; place = refl }
-
-  pub next_put : (i : ℕ) (u : List ℕ) → i < length bytes → Puts (take i bytes) at (at + i) t u → Puts (take (i + 1) bytes) at (at + (i + 1)) t (set u (at + i) (get_or bytes i 0))
-  next_put i u h p =
-      let q = both_put p (one_put (get_or bytes i 0) (at + i) u) in record {
-        text = q.text ∙ ap (sets t at) (sym (ap (λ k. take k bytes) (add-one i) ∙ take-suc bytes i 0 h));
-        place = omega (arith, simp length-take at p.place, length-take (i + 1) bytes);
-      }
-
-  pub all_put : (i : ℕ) (u : List ℕ) → length bytes ≤ i → Puts (take i bytes) at (at + i) t u → Puts bytes at (at + length bytes) t u
-  all_put i u g p = record { text = p.text ∙ ap (sets t at) (take_all i bytes g); place = refl }
 
 -- ---- digits
 
@@ -70,14 +70,14 @@ enough (suc f) (suc g) n h k = go (λ l. enough f g (n / 10) (omega arith) (omeg
     go less true e = refl
     go less false e = ap (λ ds. ds ++ unit n) (less (ltb-false n 10 e))
 
-decimal-one : (n : ℕ) → n < 10 → decimal n ≡ (48 + n) ∷ []
+pub decimal-one : (n : ℕ) → n < 10 → decimal n ≡ (48 + n) ∷ []
 unfolding decimal digits
 decimal-one n h =
     ap (λ f. digits f n) (add-one n)
     ∙ ap (λ b. cond b (unit n) (digits n (n / 10) ++ unit n)) (lt-ltb n 10 h)
     ∙ ap (λ d. (48 + d) ∷ []) (let e : n % 10 ≡ n = omega arith in e)
 
-decimal_more : (n : ℕ) → 10 ≤ n → decimal n ≡ decimal (n / 10) ++ ((48 + n % 10) ∷ [])
+pub decimal_more : (n : ℕ) → 10 ≤ n → decimal n ≡ decimal (n / 10) ++ ((48 + n % 10) ∷ [])
 unfolding decimal digits
 decimal_more n h =
     ap (λ f. digits f n) (add-one n)
@@ -98,9 +98,3 @@ decimal-length (suc k) n h = go (decimal-length k (n / 10) (omega arith)) (ltb n
     go : length (decimal (n / 10)) ≤ suc k → (b : Bool) → ltb n 10 ≡ b → length (decimal n) ≤ suc (suc k)
     go less true e = omega (arith, size-one n (ltb-true n 10 e))
     go less false e = omega (arith, size_more n (ltb-false n 10 e))
-
-pub digit_put : (n at : ℕ) (t : List ℕ) → n < 10 → Puts (decimal n) at (at + 1) t (set t at (48 + n))
-digit_put n at t h = put_as (sym (decimal-one n h)) (one_put (48 + n) at t)
-
-pub digits_put : {at mid : ℕ} {t u : List ℕ} (n : ℕ) → 10 ≤ n → Puts (decimal (n / 10)) at mid t u → Puts (decimal n) at (mid + 1) t (set u mid (48 + n % 10))
-digits_put {at} {mid} {t} {u} n h p = put_as (sym (decimal_more n h)) (both_put p (one_put (48 + n % 10) mid u))

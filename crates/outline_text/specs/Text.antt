@@ -1,8 +1,9 @@
 -- Text, as the list of its characters' numbers.
-use Rattle.std.specs.Prelude.{cond, List, ◌++◌, [] as []ᴸ, ◌∷◌ as ◌∷ᴸ◌, ℕ, zero, suc, ◌+◌, ◌/◌, ◌%◌, ◌≡◌, ltb, length}
+use Rattle.std.specs.Prelude.{cond, List, ◌++◌, [] as []ᴸ, ◌∷◌ as ◌∷ᴸ◌, ℕ, zero, suc, ◌+◌, ◌/◌, ◌%◌, ◌≡◌, ltb, length, ◌≤◌}
 use Prim.Native.Char.{code}
 use Prim.Native.String.{String, [], ◌∷◌}
 use Rattle.std.proofs.lemmas.List.Edits.{sets}
+use Rattle.outline_text.specs.declared.Page.{Page}
 
 abbrev pub ascii : String → List ℕ
 ascii [] = []ᴸ
@@ -21,8 +22,14 @@ digits (suc f) n = cond (ltb n 10) (unit n) (digits f (n / 10) ++ unit n)
 unfoldable pub decimal : ℕ → List ℕ
 decimal n = digits (n + 1) n
 
--- a buffer that held `before` holds the bytes from place `at` on, up to `next`, and else what it
--- held
-pub record Puts (bytes : List ℕ) (at next : ℕ) (before after : List ℕ) : Type 0 where
-  pub text : after ≡ sets before at bytes
-  pub place : next ≡ at + length bytes
+-- the page has room for the bytes
+abbrev pub Room : List ℕ → Page → Type 0
+Room bytes page = page.at + length bytes ≤ length page.text.now
+
+-- the page, which is the same lent buffer, holds the bytes from the place before to the place
+-- after, and else what it held
+pub record Writes (bytes : List ℕ) (before after : Page) : Type 0 where
+  pub same_text : after.text.ghost_name ≡ before.text.ghost_name
+  pub text : after.text.now ≡ sets before.text.now before.at bytes
+  pub place : after.at ≡ before.at + length bytes
+  pub fits : after.at ≤ length after.text.now

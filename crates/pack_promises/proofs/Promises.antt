@@ -22,7 +22,7 @@ use Rattle.calls.specs.Calls.{parents_of_string, split_pack, join_pack}
 use Rattle.theory.specs.Rows.{NoneHolds}
 use Rattle.theory.specs.Layout.{AreBytes}
 use Rattle.theory.specs.Changes.{changed}
-use Rattle.theory.proofs.Settled.{unequal, first_alone, settle_on, settle-append}
+use Rattle.theory.proofs.Settled.{first_alone, settle_on, settle-append}
 use Rattle.theory.proofs.Codes.{neither, not_unequal, listed-tree, Others}
 use Rattle.theory.proofs.Parents.{parents_are}
 use Rattle.theory.proofs.Lowest.{parents-bad_entry}
@@ -39,10 +39,8 @@ use Rattle.bits_append.specs.Appended.{appended}
 use Rattle.bits_append.proofs.Appending.{appended-length, appended_bytes, appended-new, appended_read}
 use Rattle.string_promises.proofs.Reading.{read_done, never_among}
 use Rattle.string_promises.proofs.Promises.{tree_read}
-use Rattle.pack_scan.specs.declared.Pack.TheVariants as Scan
 use Rattle.pack_scan.specs.Found.{trees, refused, found}
 use Rattle.pack_scan.proofs.Parts.{starts-length}
-use Rattle.pack_scan.proofs.Telling.{found-refused}
 use Rattle.pack_check.proofs.Rows.{held, held_trees}
 use Rattle.pack_scan.specs.Numbers.{pack_row}
 use Rattle.call_split.proofs.Splitting.{split_made}
@@ -346,16 +344,8 @@ join_by_held pack L k ps z =
     settle_on _ _ _ _ _ (JoinLaws.none_wrong (length pack) L k (length ps) z) ∙ settle-append pack _ _ (pack_rows pack L k) _
 
 pub held_by_scan : P.HeldByScan
-held_by_scan bytes L k (Scan.Refused x) clean e =
-    let some = (found-refused (bits_from bytes 0 L) e).1 in
-    let other = alone (10 at 0 when not (eqb 0 k)) in
-    sym (held bytes L k (Scan.Refused x) e)
-    ∙ ap₂ (λ l b. over (alone (5 at 0 when l)) (over (alone (4 at x when b)) other)) clean (unequal x 0 (λ z. omega arith))
-    ∙ sym (first_alone (pack_row (Scan.Refused x) k))
-held_by_scan bytes L k (Scan.Trees n) clean e =
-    sym (held bytes L k (Scan.Trees n) e)
-    ∙ ap (λ l. over (alone (5 at 0 when l)) (alone (10 at n when not (eqb n k)))) clean
-    ∙ sym (first_alone (pack_row (Scan.Trees n) k))
+held_by_scan bytes L k scan clean e =
+    sym (held bytes L k scan e) ∙ ap (λ l. over (alone (5 at 0 when l)) (alone (pack_row scan k))) clean ∙ sym (first_alone (pack_row scan k))
 
 -- ---- damage
 

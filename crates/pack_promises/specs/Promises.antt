@@ -1,6 +1,6 @@
 -- What splitting and joining promise together (demand 3).
 -- Each name is a statement; proofs/Promises.antt has a proof of each.
-use Rattle.std.specs.Prelude.{◌≡◌, false, ◌||◌, List, [], ◌∷◌, ◌++◌, ◌↔◌, ℕ, ◌+◌, ◌-◌, ◌*◌, ◌≤◌, ◌<◌, ltb, length, get_or, take, drop}
+use Rattle.std.specs.Prelude.{Result, ◌≡◌, false, ◌||◌, List, [], ◌∷◌, ◌++◌, ◌↔◌, ℕ, ◌+◌, ◌-◌, ◌*◌, ◌≤◌, ◌<◌, ltb, length, get_or, take, drop}
 use Rattle.meaning.specs.Trees.{Tree, nodes}
 use Rattle.meaning.specs.Parents.{parents, bad_entry}
 use Rattle.meaning.specs.Strings.{strings, string_of}
@@ -14,7 +14,6 @@ use Rattle.theory.specs.Layout.{AreBytes}
 use Rattle.theory.specs.Changes.{changed}
 use Rattle.table_sizes.specs.ToSplit as ToSplit
 use Rattle.table_sizes.specs.ToJoin as ToJoin
-use Rattle.pack_scan.specs.declared.Pack.{Pack}
 use Rattle.pack_scan.specs.Found.{found, found_of}
 use Rattle.pack_scan.specs.Numbers.{pack_row}
 
@@ -135,7 +134,7 @@ JoinByHeld = (pack : List ℕ) (L k : ℕ) (ps : List ℕ) → ToJoin.JoinSized 
 
 -- where no leftover bit is set, these are the numbers of what the scan finds
 abbrev pub HeldByScan : Type 0
-HeldByScan = (bytes : List ℕ) (L k : ℕ) (pack : Pack) → leftover bytes L ≡ false → found_of pack ≡ found (bits_from bytes 0 L)
+HeldByScan = (bytes : List ℕ) (L k : ℕ) (pack : Result ℕ ℕ) → leftover bytes L ≡ false → found_of pack ≡ found (bits_from bytes 0 L)
     → first_holding (pack_rows bytes L k) ≡ first_holding (pack_row pack k ∷ [])
 
 -- ---- Damage.

@@ -1,3 +1,2 @@
-mod Handing
 pub mod Parts
 pub mod Telling

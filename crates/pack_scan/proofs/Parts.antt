@@ -17,7 +17,7 @@ use Rattle.theory.proofs.Packing.{bits-length, rest-nil, rest-drop}
 use Rattle.string_end_laws.specs.Ends.{over, refused, tree_end}
 use Rattle.string_end.specs.Ends.{end_of}
 use Rattle.string_end.specs.declared.TreeEnd.{TreeEnd}
-use Rattle.string_end.specs.declared.TreeEnd.TheVariants.{Over, Refused}
+use Rattle.std.specs.Prelude.{Result, Ok, Err}
 use Rattle.string_end_laws.proofs.Ends.{over-within, refused-within, many_refused, many_over, sizes-over, sizes-refused}
 use Rattle.pack_scan.specs.Found as F
 use Rattle.pack_scan.specs.Found.{found}
@@ -40,12 +40,12 @@ module _ (b : List ℕ) (n : ℕ) where
   next-after p q g h = rest-drop b p q n g h
 
   -- what is told of the end of the next tree
-  module _ (p : ℕ) (end : TreeEnd) (found : end_of end ≡ tree_end (bits_from b p (n - p)) p) where
-    pub told_over : {q z : ℕ} → end ≡ Over q z → tree_end (after p) p ≡ over q z
+  module _ (p : ℕ) (end : Result TreeEnd ℕ) (found : end_of end ≡ tree_end (bits_from b p (n - p)) p) where
+    pub told_over : {tree : TreeEnd} → end ≡ Ok tree → tree_end (after p) p ≡ over tree.next tree.size
     unfolding after
     told_over e = sym found ∙ ap end_of e
 
-    pub told_refused : {x : ℕ} → end ≡ Refused x → tree_end (after p) p ≡ refused x
+    pub told_refused : {x : ℕ} → end ≡ Err x → tree_end (after p) p ≡ refused x
     unfolding after
     told_refused e = sym found ∙ ap end_of e
 

@@ -8,7 +8,7 @@ ghost use Rattle.meaning.specs.Bytes.{bits_from};
 ghost use Rattle.meaning.specs.Packs.{sizes, starts};
 ghost use Rattle.pack_scan.specs.Found.{found, found_of};
 
-use string_end::{TreeEnd, tree_end};
+use string_end::tree_end;
 
 // Stores entry k, where the list has one.
 fn note(list: &mut [u32], k: usize, x: u32)
@@ -25,23 +25,12 @@ pub fn hand_over(list: &[u32], k: usize, out: &mut [u32])
     requires k_in_bounds_2 { k ≤ length out.old }
     ensures { out.new ≡ written (take k list.now) out.old }
 {
-    let mut i: usize = 0;
-    while i < k {
-        out[i] = list[i];
-        i += 1;
-    }
-}
-
-// What the bits of a pack hold: so many trees, or the bit at which they are refused.
-#[derive(Clone, Copy)]
-pub enum Pack {
-    Trees(u32),
-    Refused(u32),
+    out[..k].copy_from_slice(&list[..k]);
 }
 
 // Scans a pack, and notes the first bit and the node count of each tree for which the lists have an
-// entry.
-pub fn scan_trees(b: &[u8], n: usize, firsts: &mut [u32], counts: &mut [u32]) -> Pack
+// entry. Answers how many trees the bits of the pack hold, or the bit at which they are refused.
+pub fn scan_trees(b: &[u8], n: usize, firsts: &mut [u32], counts: &mut [u32]) -> Result<u32, u32>
     requires n_bound { n ≤ 8 * length b.now }
     requires n_bound_2 { n ≤ 131071 }
     ensures result_value { found_of result ≡ found (bits_from b.now 0 n) }
@@ -51,18 +40,14 @@ pub fn scan_trees(b: &[u8], n: usize, firsts: &mut [u32], counts: &mut [u32]) ->
     let mut trees: usize = 0;
     let mut at: usize = 0;
     while at < n {
-        let end = tree_end(b, n, at);
-        match end {
-            TreeEnd::Refused(place) => {
-                return Pack::Refused(place as u32);
-            }
-            TreeEnd::Over { next, size } => {
-                note(firsts, trees, (at + 1) as u32);
-                note(counts, trees, size as u32);
-                trees += 1;
-                at = next;
-            }
-        }
+        let end = match tree_end(b, n, at) {
+            Ok(end) => end,
+            Err(place) => return Err(place as u32),
+        };
+        note(firsts, trees, (at + 1) as u32);
+        note(counts, trees, end.size as u32);
+        trees += 1;
+        at = end.next;
     }
-    Pack::Trees(trees as u32)
+    Ok(trees as u32)
 }

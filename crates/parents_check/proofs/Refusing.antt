@@ -1,28 +1,20 @@
 -- The rows of a parent list that is to be written, by what its check found.
-use mathlib.Core.Path.{◌≡◌, refl, sym, ap, ◌∙◌}
-use mathlib.Core.Bool.{Bool, true, false, not}
+use Rattle.std.specs.Prelude.{Ok, Err}
+use mathlib.Core.Path.{◌≡◌, sym, ap, ◌∙◌}
+use mathlib.Core.Bool.{true}
 use mathlib.Core.List.{List, [], ◌∷◌}
 use Prim.Native.Nat.{ℕ, ◌≤◌, ◌<◌}
 use native.Mathlib.Omega.{arith}
-use borrow.Author.Tests.{le-ltb, ltb-true, ltb-false}
-use lib.Dec.{ltb, eqb}
+use borrow.Author.Tests.{lt-ltb, le-ltb, ltb-false}
+use lib.Dec.{ltb}
 use lib.ListN.{length}
 use Rattle.meaning.specs.Parents.{IsParents, bad_entry}
-use Rattle.meaning.specs.declared.Verdict.TheVariants.{Passed}
 use Rattle.meaning.specs.Answers.{Row, ◌at◌when◌, alone, first_holding}
 use Rattle.meaning.specs.Tests.{wrong_count, parent_rows}
 use Rattle.theory.specs.Rows.{NoneHolds}
-use Rattle.theory.proofs.Settled.{below, beyond, between, unequal, equal, first-here, first_on, first_alone, first-none, none_first}
+use Rattle.theory.proofs.Settled.{below, beyond, between, first-here, first_on, first-none, none_first}
 use Rattle.theory.proofs.Codes.{not-outside}
 use Rattle.parents_check.proofs.Rising.{good_parents}
-
--- a number is not 0 exactly if it is more
-not-zero : (x : ℕ) → not (eqb x 0) ≡ ltb 0 x
-not-zero x = go (ltb 0 x) refl
-  where
-    go : (b : Bool) → ltb 0 x ≡ b → not (eqb x 0) ≡ b
-    go true e = unequal x 0 (λ z. omega (arith, ltb-true 0 x e, z))
-    go false e = equal x 0 (omega (arith, ltb-false 0 x e))
 
 -- what a list that passes keeps to
 pub record Writable (ps : List ℕ) : Type 0 where
@@ -48,15 +40,14 @@ module _ (ps : List ℕ) where
   pub refused_many : 65535 < length ps → alone (2 at 0 when true) ≡ first_holding (parent_rows ps)
   refused_many h = refused-count (beyond 1 65535 (length ps) h)
 
-  pub by_entry : 1 ≤ length ps → length ps ≤ 65535 → (r : ℕ) → r ≡ bad_entry ps → alone (3 at r when not (eqb r 0)) ≡ first_holding (parent_rows ps)
+  pub by_entry : 1 ≤ length ps → length ps ≤ 65535 → (r : ℕ) → bad_entry ps ≡ r → 0 < r → Err (record { code = 3; place = r }) ≡ first_holding (parent_rows ps)
   unfolding parent_rows
-  by_entry g h r e =
-      ap (λ x. alone (3 at x when not (eqb x 0))) e
-      ∙ ap (λ b. alone (3 at bad_entry ps when b)) (not-zero (bad_entry ps))
-      ∙ sym (first_alone entry)
+  by_entry g h r e lt =
+      ap (λ x. Err (record { code = 3; place = x })) (sym e)
+      ∙ sym (first-here entry [] (lt-ltb 0 (bad_entry ps) (omega arith)))
       ∙ sym (first_on count (entry ∷ []) (between 1 65535 (length ps) g h))
 
-  pub passes : 1 ≤ length ps → length ps ≤ 65535 → bad_entry ps ≡ 0 → Passed ≡ first_holding (parent_rows ps)
+  pub passes : 1 ≤ length ps → length ps ≤ 65535 → bad_entry ps ≡ 0 → (Ok tt) ≡ first_holding (parent_rows ps)
   unfolding parent_rows
   passes g h e =
       sym (first_on count (entry ∷ []) (between 1 65535 (length ps) g h) ∙ first_on entry [] (le-ltb 0 (bad_entry ps) (omega arith)) ∙ first-none)
@@ -69,5 +60,5 @@ module _ (ps : List ℕ) where
       let good : bad_entry ps ≡ 0 = omega arith in
       record { some = sized.0; most = sized.1; good = good; parents = good_parents ps sized.0 good }
 
-  pub writable : Passed ≡ first_holding (parent_rows ps) → Writable ps
+  pub writable : (Ok tt) ≡ first_holding (parent_rows ps) → Writable ps
   writable e = none_writable (none_first (parent_rows ps) e)

@@ -4,49 +4,57 @@
 
 ghost use Rattle.std.specs.Prelude.{◌≡◌, ◌≤◌, length};
 ghost use Rattle.meaning.specs.Parents.{bad_entry};
+ghost use Rattle.theory.specs.Places.{place_of};
 ghost use Rattle.meaning.specs.Answers.{first_holding};
 ghost use Rattle.meaning.specs.Tests.{parent_rows};
 
-use bits_wide::wide;
-use meaning::{MOST_NODES, NOT_PARENTS, Verdict, WRONG_SIZE};
-use table_answers::row;
+use meaning::{MOST_NODES, NOT_PARENTS, Refusal, WRONG_SIZE};
 
-// 0 if `ps` is a parent list, and else the lowest entry that breaks the rule.
-pub fn bad_entry(ps: &[u32]) -> usize
+// The lowest entry that breaks the rule of a parent list, from 1, if there is one.
+pub fn bad_entry(ps: &[u32]) -> Option<usize>
     requires in_bounds { 1 ≤ length ps.now }
     requires ps_len_bound { length ps.now ≤ 65535 }
-    ensures { result ≡ bad_entry ps.now }
+    ensures { result ≡ place_of (bad_entry ps.now) }
 {
     if ps[0] != 0 {
-        return 1;
+        return Some(1);
     }
     let mut low: u32 = 1;
-    let mut i: usize = 1;
-    while i < ps.len() {
+    for i in 1..ps.len() {
         let p = ps[i];
         if p < low {
-            return i + 1;
+            return Some(i + 1);
         }
-        if wide(p) > i {
-            return i + 1;
+        if p as usize > i {
+            return Some(i + 1);
         }
         low = p;
-        i += 1;
     }
-    0
+    None
 }
 
 // What is wrong with a parent list that is to be written: its count, or its lowest offending entry.
-pub fn parents_refusal(parents: &[u32]) -> Verdict
+pub fn parents_refusal(parents: &[u32]) -> Result<(), Refusal>
     ensures { result ≡ first_holding (parent_rows parents.now) }
 {
     let nodes = parents.len();
     if nodes < 1 {
-        return row(true, WRONG_SIZE, 0);
+        return Err(Refusal {
+            code: WRONG_SIZE,
+            place: 0,
+        });
     }
     if MOST_NODES < nodes {
-        return row(true, WRONG_SIZE, 0);
+        return Err(Refusal {
+            code: WRONG_SIZE,
+            place: 0,
+        });
     }
-    let bad = bad_entry(parents);
-    row(bad != 0, NOT_PARENTS, bad as u32)
+    match bad_entry(parents) {
+        Some(entry) => Err(Refusal {
+            code: NOT_PARENTS,
+            place: entry as u32,
+        }),
+        None => Ok(()),
+    }
 }

@@ -11,7 +11,8 @@ use Rattle.meaning.specs.Answers.{Row, Outcome, counts, refused_with, came_to, s
 use Rattle.calls.specs.Calls.{plq_string_of_parents, plq_parents_of_string, plq_image_of_parents, plq_image_with_metres, plq_parents_of_image, plq_metres_of_image, plq_check_image}
 use Rattle.calls.specs.Calls.{ask, list, split, join, plq_parents_of_text, plq_text_of_parents, does}
 use Rattle.meaning.specs.Tests.{parent_rows, check_rows, pack_rows}
-use Rattle.calls.specs.Calls.{string_of_parents, parents_of_string, seal_parents, image_of_parents, image_with_metres, check_image, parents_of_image, metres_of_image, ask_image, list_image, split_pack, join_pack}
+use Rattle.calls.specs.Calls.{string_of_parents, parents_of_string, seal_parents, image_of_parents, image_with_metres}
+use Rattle.calls.specs.Calls.{check_image, parents_of_image, metres_of_image, ask_image, list_image, split_pack, join_pack}
 use Rattle.calls.specs.Calls.{parents_of_text, text_of_parents}
 use Rattle.theory.proofs.Settled.{settle-here, settle_on, settle-none}
 use Rattle.theorems.proofs.Promises as Theory
@@ -91,7 +92,8 @@ sealed ms ps out =
     once (out ∷ []) (2, 0) ((3, bad_entry ps) ∷ (1, 0) ∷ []) o.answer (o.lent ∷ []) (settled out (λ x. x ∷ []) _ o (settle-placed _ _ _ _ _))
 
 done_or_refused : P.DoneOrRefused
-unfolding does string_of_parents parents_of_string seal_parents image_of_parents image_with_metres parent_rows check_rows pack_rows check_image parents_of_image metres_of_image ask_image list_image split_pack join_pack
+unfolding does string_of_parents parents_of_string seal_parents image_of_parents image_with_metres parent_rows check_rows
+    pack_rows check_image parents_of_image metres_of_image ask_image list_image split_pack join_pack
     parents_of_text text_of_parents
 done_or_refused (plq_string_of_parents ps out) = settled out (λ x. x ∷ []) _ (string_of_parents ps out) (settle-placed _ _ _ _ _)
 done_or_refused (plq_parents_of_string bytes L out) = settled out (λ x. x ∷ []) _ (parents_of_string bytes L out) (settle-placed _ _ _ _ _)

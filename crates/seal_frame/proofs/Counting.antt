@@ -1,12 +1,11 @@
--- Bytes cleared, and the counts of earlier ones put into a string's blocks: what the loops keep.
+-- The counts of earlier ones put into a string's blocks: what the loop keeps.
 use mathlib.Core.Path.{◌≡◌, refl, sym, ap, ap₂, ◌∙◌, subst}
-use mathlib.Core.List.{List, ◌∷◌, ◌++◌}
-use Prim.Native.Nat.{ℕ, zero, suc, ◌+◌, ◌*◌, ◌/◌, ◌%◌, ◌≤◌, ◌<◌}
+use mathlib.Core.List.{List}
+use Prim.Native.Nat.{ℕ, ◌+◌, ◌*◌, ◌/◌, ◌%◌, ◌≤◌, ◌<◌}
 use native.Mathlib.Decide.{ℕ_discrete}
-use native.Mathlib.Numerals.{add-one}
 use native.Mathlib.Omega.{arith}
-use lib.ListN.{length, get_or, drop, set, replicate, length-replicate}
-use lib.Seq.{drop-cons, ext_get_or, set_at}
+use lib.ListN.{length, get_or}
+use lib.Seq.{ext_get_or}
 use Rattle.meaning.specs.Strings.{O, ones}
 use Rattle.meaning.specs.Bytes.{bits_from}
 use Rattle.meaning.specs.Image.{string_blocks, string_in}
@@ -17,20 +16,6 @@ use Rattle.bits_count.proofs.Runs.{bits-ones-le}
 use Rattle.image_words.specs.Words.{with_word}
 use Rattle.seal_frame.specs.Passes.{CountsWritten}
 use Rattle.seal_r1.proofs.Placing.{bit-agree, word-agree, put_length, put_word, put_byte}
-
--- ---- bytes cleared
-
-zero-front : (i : ℕ) (ys : List ℕ) → replicate i 0 ++ (0 ∷ ys) ≡ 0 ∷ (replicate i 0 ++ ys)
-zero-front zero ys = refl
-zero-front (suc i) ys = ap (λ r. 0 ∷ r) (zero-front i ys)
-
-pub clear_next : (out old : List ℕ) (i : ℕ) → out ≡ replicate i 0 ++ drop i old → i < length old → set out i 0 ≡ replicate (i + 1) 0 ++ drop (i + 1) old
-clear_next out old i e h =
-    ap (λ s. set s i 0) (e ∙ ap (λ r. replicate i 0 ++ r) (drop-cons old i 0 h))
-    ∙ set_at (replicate i 0) (get_or old i 0) (drop (suc i) old) 0 i (length-replicate i 0)
-    ∙ zero-front i (drop (suc i) old) ∙ ap (λ j. replicate j 0 ++ drop j old) (sym (add-one i))
-
--- ---- counts
 
 pub block-few : (s : List ℕ) (p x : ℕ) → x ≡ ones (bits_from s p 4000) → x ≤ 4000
 block-few s p x e = omega (arith, bits-ones-le s p 4000)

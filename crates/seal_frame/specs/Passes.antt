@@ -1,12 +1,10 @@
 -- The passes that fill the payloads of a lent image: what each writes, and that it changes nothing
 -- else.
-use Rattle.std.specs.Prelude.{◌≡◌, List, ℕ, ◌+◌, ◌*◌, ◌%◌, ◌<◌, ◌≤◌, length, get_or, take}
+use Rattle.std.specs.Prelude.{None, Some, Option as AtBlock, ◌≡◌, List, ℕ, ◌+◌, ◌*◌, ◌%◌, ◌<◌, ◌≤◌, length, get_or, take}
 use Rattle.std.proofs.Math.Option.{Option}
 use Rattle.meaning.specs.Strings.{ones, R1, R0, string_of}
 use Rattle.meaning.specs.Image.{version_of, string_blocks, blocks_needed, string_in}
 use Rattle.theory.specs.Layout.{word_at}
-use Rattle.image_layout.specs.declared.MetresAt.{MetresAt}
-use Rattle.image_layout.specs.declared.MetresAt.TheVariants.{Nowhere, From}
 use Rattle.image_words.specs.Words.{with_word}
 use Rattle.seal_r1_bits.specs.Listed.{runs_in}
 use Rattle.seal_frame.specs.Filled.{Filled}
@@ -20,9 +18,9 @@ pub record CountsWritten (old bytes : List ℕ) (from n : ℕ) : Type 0 where
 -- ---- the header
 
 -- the version of an image whose metres are there
-abbrev pub version_at : MetresAt → ℕ
-version_at Nowhere = 1
-version_at (From block) = 2
+abbrev pub version_at : AtBlock ℕ → ℕ
+version_at None = 1
+version_at (Some block) = 2
 
 unfoldable pub headed : List ℕ → ℕ → ℕ → ℕ → ℕ → List ℕ
 headed bytes v n m blocks = with_word (with_word (with_word (with_word bytes 0 v) 4 n) 8 m) 12 blocks

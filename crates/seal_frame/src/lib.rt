@@ -6,7 +6,7 @@ ghost use Rattle.theory.specs.Bounds.{most_block};
 ghost use Rattle.meaning.specs.Image.{string_blocks};
 ghost use Rattle.seal_frame.specs.Passes.{CountsWritten, version_at, headed};
 
-use image_layout::{Layout, MetresAt};
+use image_layout::Layout;
 use meaning::{TREE_ALONE, WITH_METRES};
 
 // The first so many bytes become 0.
@@ -14,11 +14,7 @@ pub fn clear(image: &mut [u8], bytes: usize)
     requires { bytes ≤ length image.old }
     ensures { image.new ≡ replicate bytes 0 ++ drop bytes image.old }
 {
-    let mut i: usize = 0;
-    while i < bytes {
-        image[i] = 0;
-        i += 1;
-    }
+    image[..bytes].fill(0);
 }
 
 // The counts of earlier ones in the blocks from `bits_block` on, which hold n bits.
@@ -28,24 +24,21 @@ pub fn put_counts(image: &mut [u8], bits_block: usize, n: usize)
     requires n_in_bounds { 512 * (bits_block + string_blocks n) ≤ length image.old }
     ensures { CountsWritten image.old image.new bits_block n }
 {
-    let end = image_layout::string_blocks(n);
-    let mut c: u32 = 0;
-    let mut j: usize = 0;
-    while j < end {
+    let mut c = 0;
+    for j in 0..image_layout::string_blocks(n) {
         image_words::put_word(image, 512 * (bits_block + j), c);
         // of the last block all 4,000 bits too: its ones are in no count
         c += bits_count::ones_from(image, image_layout::bits_at(bits_block + j), 4000);
-        j += 1;
     }
 }
 
 // The version of an image whose metres are there.
-fn version_at(metres: MetresAt) -> u32
+fn version_at(metres: Option<u32>) -> u32
     ensures { result ≡ version_at metres }
 {
     match metres {
-        MetresAt::Nowhere => TREE_ALONE,
-        MetresAt::From(_) => WITH_METRES,
+        None => TREE_ALONE,
+        Some(_) => WITH_METRES,
     }
 }
 

@@ -4,7 +4,7 @@ use mathlib.Core.List.{List, [], ◌∷◌, ◌++◌}
 use mathlib.Core.Option.{Option, none, some}
 use Prim.Native.Nat.{ℕ, ◌+◌, ◌-◌, ◌*◌, ◌%◌, ◌^◌, ◌≤◌, ◌<◌}
 use native.Mathlib.Omega.{arith}
-use lib.ListN.{length, get_or, take, drop, replicate, length-append, length-drop, length-replicate, get_or-replicate, get_or-append}
+use lib.ListN.{length, get_or, take, drop, replicate, length-replicate, get_or-replicate, get_or-append}
 use lib.Seq.{get_or-drop, get_or-append-add}
 use Rattle.meaning.specs.Parents.{IsParents, bad_entry}
 use Rattle.meaning.specs.Strings.{Bit, ones, R1, R0, string_of}
@@ -18,7 +18,7 @@ use Rattle.image_layout.specs.declared.Layout.{Layout}
 use Rattle.image_layout.specs.Layout.{metres_at, layout_of}
 use Rattle.image_layout.proofs.Laying.{held_most}
 use Rattle.seal_r1_bits.specs.Listed.{runs_in}
-use Rattle.seal_r1.specs.Passes.{Part, tree_blocks, Blank, Outside, RoomForStrings, StringsWritten}
+use Rattle.seal_r1.specs.Passes.{Part, tree_blocks, Blank, Outside, StringsWritten}
 use Rattle.seal_frame.specs.Filled.{Counts, Filled}
 use Rattle.seal_frame.specs.Passes.{CountsWritten, version_at, headed, blocks_for, Prepared}
 use Rattle.seal_metres.specs.Metres.{MetresWritten}
@@ -39,10 +39,6 @@ module _ (old : List ℕ) (k : ℕ) where
       let l = length-replicate {A = ℕ} k 0 in
       ap (λ j. get_or (replicate k 0 ++ drop k old) j 0) (let e : q ≡ length (replicate k 0) + (q - k) = omega arith in e)
       ∙ get_or-append-add (replicate k 0) (drop k old) (q - k) 0 ∙ get_or-drop k old (q - k) 0 ∙ ap (λ j. get_or old j 0) (let e : k + (q - k) ≡ q = omega arith in e)
-
-  pub cleared-length : k ≤ length old → length (replicate k 0 ++ drop k old) ≡ length old
-  cleared-length h =
-      omega (arith, length-append (replicate k 0) (drop k old), length-replicate {A = ℕ} k 0, length-drop k old)
 
 -- ---- the metres of a lent list
 
@@ -235,18 +231,6 @@ module _ (old cleared ps ms : List ℕ) (layout : Layout) (some : 1 ≤ length p
 
   r0_is : layout.r0_block ≡ r0_block (length ps)
   r0_is = ap (λ (l : Layout). l.r0_block) laid
-
-  pub ready : 512 * blocks_for (given ms) ps ≤ length old → RoomForStrings cleared ps layout.r0_block layout.r1_samples layout.r0_samples
-  ready room = record {
-    some = some;
-    most = most;
-    good = good;
-    is_r0 = r0_is;
-    is_first = ap (λ (l : Layout). l.r1_samples) laid;
-    is_second = ap (λ (l : Layout). l.r0_samples) laid;
-    room = omega (arith, ap length cleared_is, cleared-length old (512 * blocks_for (given ms) ps) room);
-    blank = λ q h. ap (λ s. get_or s q 0) cleared_is ∙ cleared-zero old (512 * blocks_for (given ms) ps) q (omega arith);
-  }
 
   module _ (ran one two : List ℕ) (block : ℕ) (is : block ≡ layout.blocks - word_blocks (length ms)) (r : StringsWritten cleared ran ps) (c1 : CountsWritten ran one 1 (length ps))
       (c0 : CountsWritten one two layout.r0_block (length ps + 1)) where

@@ -1,17 +1,16 @@
 -- The metres put one by one: what the loops keep.
 use mathlib.Core.Path.{◌≡◌, refl, sym, ap, ◌∙◌, subst₂}
-use mathlib.Core.List.{List}
-use Prim.Native.Nat.{ℕ, ◌+◌, ◌*◌, ◌^◌, ◌≤◌, ◌<◌, min}
+use mathlib.Core.List.{List, ◌++◌}
+use Prim.Native.Nat.{ℕ, ◌+◌, ◌-◌, ◌*◌, ◌^◌, ◌≤◌, ◌<◌, min}
 use native.Mathlib.Decide.{dec_lt, ℕ_discrete}
 use native.Mathlib.Omega.{arith}
-use lib.ListN.{length, get_or, take, length-take, get_or-eq_default}
-use lib.Seq.{get_or-take, take_all}
+use lib.ListN.{length, get_or, take, drop, length-take, length-drop, get_or-append, get_or-eq_default, drop_of_length-le}
+use lib.Seq.{get_or-take, get_or-drop, take_all, drop_at, drop-drop}
 use Rattle.theory.specs.Layout.{word_at, sample_place}
 use Rattle.theory.specs.Stages.{word_blocks}
 use Rattle.image_words.specs.Words.{with_word}
 use Rattle.seal_r1.specs.Passes.{Blank, Outside}
 use Rattle.seal_r1.proofs.Placing.{word-agree, word-zero, put_length, put_word, put_byte}
-use Rattle.seal_metres.specs.Metres.{MetresWritten}
 
 -- the first i of them are put, and after them there are zeros
 pub record Putting (old out : List ℕ) (block : ℕ) (ms : List ℕ) (i : ℕ) : Type 0 where
@@ -55,8 +54,28 @@ putting_block old mid out block ms a i k before n e = record {
       | no l ↦ take_all i ms (omega arith) ∙ sym (take_all k ms (omega arith))
     ]
 
-pub putting_last : (old out : List ℕ) (block : ℕ) (ms : List ℕ) (i : ℕ) → Putting old out block ms i → length ms ≤ i → MetresWritten old out block ms
-putting_last old out block ms i n l = record { words = λ v h. n.words v h ∙ ap (λ ws. get_or ws v 0) (take_all i ms l); apart = n.apart }
+-- the numbers of block j, cut off what is left of the list
+module _ (ms left words rest : List ℕ) (size j : ℕ) (full : size ≡ 126) (whole : left ≡ drop (126 * j) ms)
+    (cut : left ≡ words ++ rest) (long : length words ≡ min size (length left)) where
+  many : length words ≡ min 126 (length ms - 126 * j)
+  many = omega (arith, full, long, ap length whole, length-drop (126 * j) ms)
+
+  pub number_inside : (w : ℕ) → w < length words → (w < 126) × (126 * j + w < length ms)
+  number_inside w l = (omega (arith, many), omega (arith, many))
+
+  pub number_at : (w : ℕ) → w < length words → get_or words w 0 ≡ get_or ms (126 * j + w) 0
+  number_at w l = sym (get_or-append words rest 0 w l) ∙ ap (λ s. get_or s w 0) (sym cut ∙ whole) ∙ get_or-drop (126 * j) ms w 0
+
+  pub cut_end : (w : ℕ) → length words ≤ w → w ≤ length words → min (126 * j + w) (length ms) ≡ min (126 * (j + 1)) (length ms)
+  cut_end w a b = omega (arith, many)
+
+  pub rest_is : rest ≡ drop (126 * (j + 1)) ms
+  rest_is =
+      sym (drop_at words rest (length words) refl) ∙ ap (drop (length words)) (sym cut ∙ whole) ∙ drop-drop (length words) (126 * j) ms
+      ∙ elim (ℕ_discrete (length words) 126) [
+        | yes f ↦ ap (λ n. drop n ms) (let g : 126 * j + length words ≡ 126 * (j + 1) = omega arith in g)
+        | no f ↦ drop_of_length-le ms (omega (arith, many)) ∙ sym (drop_of_length-le ms (omega (arith, many)))
+      ]
 
 -- word w of block j of them
 module _ (old out : List ℕ) (block : ℕ) (ms : List ℕ) (j w : ℕ) (n : Putting old out block ms (126 * j + w)) (low : w < 126) (l : 126 * j + w < length ms)

@@ -7,7 +7,7 @@ ghost use Rattle.theory.specs.Stages.{word_blocks};
 ghost use Rattle.seal_r1.specs.Passes.{Blank};
 ghost use Rattle.seal_metres.specs.Metres.{MetresWritten};
 
-use image_layout::{PAYLOAD_WORDS, in_block};
+use image_layout::PAYLOAD_WORDS;
 
 // The metres, a word each, in the blocks from `block` on.
 pub fn put_metres(image: &mut [u8], block: usize, metres: &[u32])
@@ -17,17 +17,10 @@ pub fn put_metres(image: &mut [u8], block: usize, metres: &[u32])
     requires blank { Blank image.old block (word_blocks (length metres.now)) }
     ensures { MetresWritten image.old image.new block metres.now }
 {
-    let n = metres.len();
-    let mut j: usize = 0;
-    while PAYLOAD_WORDS * j < n {
+    for (j, words) in metres.chunks(PAYLOAD_WORDS).enumerate() {
         let at = 512 * (block + j);
-        let first = PAYLOAD_WORDS * j;
-        let words = in_block(n - first);
-        let mut w: usize = 0;
-        while w < words {
-            image_words::put_word(image, at + 4 * w, metres[first + w]);
-            w += 1;
+        for (w, metre) in words.iter().enumerate() {
+            image_words::put_word(image, at + 4 * w, *metre);
         }
-        j += 1;
     }
 }

@@ -1,4 +1,5 @@
 -- What each way out of sealing comes to, by the rows of `meaning`.
+use Rattle.std.specs.Prelude.{Ok, Err}
 use mathlib.Core.Path.{◌≡◌, refl, sym, ap, ap₂, ◌∙◌}
 use mathlib.Core.Bool.{false}
 use mathlib.Core.List.{List, [], ◌∷◌, ◌++◌}
@@ -10,7 +11,6 @@ use Rattle.meaning.specs.Strings.{ones, R1, R0, string_of}
 use Rattle.meaning.specs.Image.{version_of, metres_held, image_of_string}
 use Rattle.meaning.specs.declared.Answer.{Answer}
 use Rattle.meaning.specs.declared.Refusal.{Refusal}
-use Rattle.meaning.specs.declared.Verdict.TheVariants.{Passed, Refused}
 use Rattle.meaning.specs.Answers.{◌at◌when◌, refused_with, counts, came_to, first_holding, settle, written, too_short}
 use Rattle.meaning.specs.Tests.{parent_rows}
 use Rattle.calls.specs.Calls.{wrong_metres, seal_parents}
@@ -23,16 +23,6 @@ use Rattle.seal_r1_bits.specs.Listed.{runs_in}
 use Rattle.seal_frame.specs.Passes.{blocks_for}
 use Rattle.seal_image.specs.Given.{given}
 use Rattle.seal_image.proofs.Preparing.{given_list, blocks-total}
-
--- ---- the version by the list of metres
-
-pub version-alone : (ms : List ℕ) → length ms ≡ 0 → 1 ≡ version_of (given ms)
-version-alone [] e = refl
-version-alone (m ∷ ms) e = absurd (omega arith)
-
-pub version-measured : (ms : List ℕ) → (length ms ≡ 0 → ⊥) → 2 ≡ version_of (given ms)
-version-measured [] h = absurd (h refl)
-version-measured (m ∷ ms) h = refl
 
 -- ---- the rows
 
@@ -50,10 +40,10 @@ module _ (ms ps out : List ℕ) (each : length ms ≡ metres_held (version_of (g
   unfolding seal_parents
   by_parents = settle_on _ _ _ _ _ (metres_right ms ps each)
 
-  pub seal_refused : {r : Refusal} → Refused r ≡ first_holding (parent_rows ps) → came_to (refused_with r.code r.place) out ≡ seal_parents (given ms) ps out
+  pub seal_refused : {r : Refusal} → Err r ≡ first_holding (parent_rows ps) → came_to (refused_with r.code r.place) out ≡ seal_parents (given ms) ps out
   seal_refused e = sym (by_parents ∙ settle-refused _ _ _ _ (parent_rows ps) e)
 
-  module _ (passed : Passed ≡ first_holding (parent_rows ps)) where
+  module _ (passed : (Ok tt) ≡ first_holding (parent_rows ps)) where
     made-size : length made ≡ 512 * blocks_for (given ms) ps
     unfolding image_of_string
     made-size =

@@ -131,10 +131,6 @@ module _ (ps old out : List ℕ) (zeros i : ℕ) (are : IsParents ps) (n : Lit p
       apart = λ q h. lit_byte out (bit_place zeros (length ps)) q (λ f. h (omega arith) (omega arith)) ∙ n.apart q h;
     })
 
--- the last bit of R0 is inside the image
-pub last_bit_inside : (zeros n at size : ℕ) → at ≡ 512 * (zeros + n / 4000) + 4 → 512 * (zeros + string_blocks (n + 1)) ≤ size → 8 * at + n % 4000 < 8 * size
-last_bit_inside zeros n at size e room = omega arith
-
 -- ---- the byte at hand
 
 module _ (out : List ℕ) (zeros c byte x : ℕ) where

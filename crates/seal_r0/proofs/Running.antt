@@ -24,16 +24,7 @@ module _ (ps old : List ℕ) (zeros first second : ℕ) (r : RoomForStrings old 
   pub runs-few : runs_in ps ≤ length ps
   runs-few = omega (arith, ones-le (R1 (string_of ps)), length-ends ps are)
 
-  pub blank_ends : Blank old 1 (string_blocks (length ps))
-  blank_ends q a b = r.blank q (let i = r.room in omega arith)
-
-  pub blank_first : Blank old first (blocks_of_samples (runs_in ps))
-  blank_first q a b = r.blank q (omega (arith, r.is_first))
-
   module _ (one : List ℕ) (e : R1Written old one ps first) where
-    pub blank_gaps : Blank one zeros (string_blocks (length ps + 1))
-    blank_gaps q a b = e.apart q (λ x y. omega (arith, r.is_r0)) (λ x y. omega (arith, r.is_r0, r.is_first)) ∙ r.blank q (omega (arith, r.is_r0))
-
     module _ (two : List ℕ) (g : R0Written one two ps zeros) where
       pub known : R1SamplesKnown two ps first
       known w h =

@@ -9,7 +9,6 @@ ghost use Rattle.theory.specs.Stages.{blocks_of_samples};
 ghost use Rattle.seal_r1_bits.specs.Listed.{runs_in};
 ghost use Rattle.seal_r1.specs.Passes.{byte_place, Blank, R1SamplesKnown, R0Written, R0SamplesWritten, RoomForStrings, StringsWritten};
 
-use bits_wide::wide;
 use image_layout::{Layout, bits_at, sample_at};
 use seal_r1::write_r1;
 
@@ -33,11 +32,10 @@ fn write_r0(image: &mut [u8], ps: &[u32], zeros: usize)
     requires blank { Blank image.old zeros (string_blocks (length ps.now + 1)) }
     ensures { R0Written image.old image.new ps.now zeros }
 {
-    let mut c: usize = 0;
+    let mut c = 0;
     let mut byte: u8 = 0;
-    let mut i: usize = 1;
-    while i < ps.len() {
-        let x = wide(ps[i]) - 1;
+    for i in 1..ps.len() {
+        let x = ps[i] as usize - 1;
         if x / 8 != c {
             let at = byte_place(zeros, c);
             image[at] = byte;
@@ -45,8 +43,7 @@ fn write_r0(image: &mut [u8], ps: &[u32], zeros: usize)
             let to = byte_place(zeros, c);
             byte = image[to];
         }
-        byte = byte | (0x80 >> (x % 8));
-        i += 1;
+        byte |= 0x80 >> (x % 8);
     }
     let at = byte_place(zeros, c);
     image[at] = byte;
@@ -68,12 +65,10 @@ fn write_r0_samples(image: &mut [u8], ps: &[u32], r1_samples: usize, r0_samples:
     requires blank { Blank image.old r0_samples (blocks_of_samples m) }
     ensures { R0SamplesWritten image.old image.new ps.now r0_samples }
 {
-    let mut s: usize = 0;
-    while 64 * s < m {
-        let place = wide(image_words::word(image, sample_at(r1_samples, s)));
+    for s in 0..m.div_ceil(64) {
+        let place = image_words::word(image, sample_at(r1_samples, s)) as usize;
         let next = seal_r1_bits::next_entry(ps, place - 1);
         image_words::put_word(image, sample_at(r0_samples, s), next as u32);
-        s += 1;
     }
 }
 

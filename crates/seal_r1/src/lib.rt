@@ -11,7 +11,6 @@ ghost use Rattle.bits_byte.specs.Byte.{byte_bits};
 ghost use Rattle.seal_r1_bits.specs.Listed.{runs_in};
 ghost use Rattle.seal_r1.specs.Passes.{byte_marked, Blank, R1Written};
 
-use bits_wide::wide;
 use image_layout::{bits_at, sample_at};
 
 // Byte number b, from 0, of R1, which k ones come before. Of each 64 ones the first is a sample, in
@@ -26,7 +25,7 @@ fn write_r1_byte(image: &mut [u8], samples: usize, b: usize, x: u8, k: usize) ->
 {
     let at = bits_at(1 + b / 500) + b % 500;
     image[at] = x;
-    let ones = wide(bits_byte::ones_in_byte(x));
+    let ones = bits_byte::ones_in_byte(x) as usize;
     let s = (k + 63) / 64;
     if k + ones <= 64 * s {
         return k + ones;
@@ -49,12 +48,10 @@ pub fn write_r1(image: &mut [u8], ps: &[u32], samples: usize) -> usize
     requires blank_2 { Blank image.old samples (blocks_of_samples (runs_in ps.now)) }
     ensures { (result ≡ runs_in ps.now) × R1Written image.old image.new ps.now samples }
 {
-    let mut k: usize = 0;
-    let mut b: usize = 0;
-    while 8 * b < ps.len() {
+    let mut k = 0;
+    for b in 0..ps.len().div_ceil(8) {
         let x = seal_r1_bits::r1_byte(ps, 8 * b);
         k = write_r1_byte(image, samples, b, x, k);
-        b += 1;
     }
     k
 }

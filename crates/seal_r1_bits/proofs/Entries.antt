@@ -1,14 +1,16 @@
 -- R1 of a parent list by its entries, as the code reads them.
 use mathlib.Core.Path.{◌≡◌, refl, sym, ap, ◌∙◌}
-use mathlib.Core.Bool.{cond}
+use mathlib.Core.Bool.{true, false, not, cond}
 use mathlib.Core.List.{List, [], ◌∷◌}
-use Prim.Native.Nat.{ℕ, zero, suc, ◌+◌, ◌-◌, ◌*◌, ◌^◌, ◌≤◌, ◌<◌}
+use Prim.Native.Nat.{ℕ, zero, suc, ◌+◌, ◌-◌, ◌*◌, ◌≤◌, ◌<◌}
 use native.Mathlib.Decide.{ℕ_discrete}
 use native.Mathlib.Numerals.{add-one}
 use native.Mathlib.Omega.{arith}
+use lib.Dec.{eqb}
 use borrow.Author.Tests.{eq-eqb, ne_eqb}
+use mir.Val.{bool_byte}
 use lib.ListN.{length, get_or, take, drop, drop_of_length-le, get_or-eq_default}
-use lib.Seq.{drop-cons, take-suc, take_all, length-take-le, get_or-drop}
+use lib.Seq.{drop-cons, take-suc, take_all, length-take-le}
 use Rattle.meaning.specs.Parents.{IsParents}
 use Rattle.meaning.specs.Strings.{Bit, O, I, ones, R1, R0, lbs, string_of}
 use Rattle.meaning.specs.Bytes.{value, number}
@@ -16,7 +18,6 @@ use Rattle.theory.proofs.Odd.{ones-append}
 use Rattle.theory.proofs.Payloads.{ones-le}
 use Rattle.theory.proofs.Parents.{are_parents}
 use Rattle.theory.proofs.Forms.{length-parents, length-R1, length-R0, string-parents, marks-same}
-use Rattle.theory.proofs.Digits.{number_lt}
 use Rattle.parents_check.proofs.Rising.{Rising, parents_rising}
 use Rattle.bits_count.proofs.Runs.{ones_of_bit}
 use Rattle.seal_r1_bits.specs.Listed.{next_of, unlike, mark_of, ends_of}
@@ -50,6 +51,11 @@ unlike-same a b e = ap (λ t. cond t 0 1) (eq-eqb a b e)
 pub unlike-other : (a b : ℕ) → (a ≡ b → ⊥) → unlike a b ≡ 1
 unfolding unlike
 unlike-other a b n = ap (λ t. cond t 0 1) (ne_eqb a b n)
+
+-- as the code has it, `u8::from(a != b)`
+pub unlike-bool : (a b : ℕ) → bool_byte (not (eqb a b)) ≡ unlike a b
+unfolding unlike
+unlike-bool a b = elim (eqb a b) as (λ t. bool_byte (not t) ≡ cond t 0 1) [ true ↦ refl | false ↦ refl ]
 
 mark_value : (p q : ℕ) → p ≤ q → value (mark_of (q - p)) ≡ unlike p q
 unfolding value
@@ -149,19 +155,5 @@ number-suc zero (I ∷ bs) = refl
 number-suc (suc j) (O ∷ bs) = omega (arith, number-suc j bs)
 number-suc (suc j) (I ∷ bs) = omega (arith, number-suc j bs)
 
-pub shifted : (r : List Bit) (i j x v : ℕ) → j < 8 → x ≡ number j (drop i r) → v ≡ value (get_or r (i + j) O) → 2 * x + v ≡ number (j + 1) (drop i r)
-shifted r i j x v h e f = omega (arith, e, f, ap (λ k. number k (drop i r)) (add-one j) ∙ number-suc j (drop i r), ap value (get_or-drop i r j O))
-
-pub shifted_small : (r : List Bit) (i j x : ℕ) → j < 8 → x ≡ number j (drop i r) → x < 128
-shifted_small r i j x h e = omega (arith, e, number_lt j (drop i r), power j h)
-  where
-    power : (j : ℕ) → j < 8 → 2 ^ j ≤ 128
-    power zero h = omega arith
-    power (suc zero) h = omega arith
-    power (suc (suc zero)) h = omega arith
-    power (suc (suc (suc zero))) h = omega arith
-    power (suc (suc (suc (suc zero)))) h = omega arith
-    power (suc (suc (suc (suc (suc zero))))) h = omega arith
-    power (suc (suc (suc (suc (suc (suc zero)))))) h = omega arith
-    power (suc (suc (suc (suc (suc (suc (suc zero))))))) h = omega arith
-    power (suc (suc (suc (suc (suc (suc (suc (suc j)))))))) h = absurd (omega arith)
+pub shifted : (bs : List Bit) (j x v : ℕ) → x ≡ number j bs → v ≡ value (get_or bs j O) → 2 * x + v ≡ number (j + 1) bs
+shifted bs j x v e f = omega (arith, e, f, ap (λ k. number k bs) (add-one j) ∙ number-suc j bs)

@@ -102,10 +102,6 @@ module _ (bytes : List ℕ) (k : ℕ) where
   sealed-size : length (sealed sum_start (payloads_in bytes k) 0) ≡ 512 * k
   sealed-size = length-sealed sum_start (payloads_in bytes k) 0 ∙ ap (λ n. 512 * n) (length-payloads_in bytes k)
 
-  pub length-sealed_to : 512 * k ≤ length bytes → length (sealed_to bytes k) ≡ length bytes
-  length-sealed_to h =
-      omega (arith, length-append (sealed sum_start (payloads_in bytes k) 0) (drop (512 * k) bytes), sealed-size, length-drop (512 * k) bytes)
-
   -- the sums of block k seal one block more
   pub sealed-next : 512 * k + 512 ≤ length bytes → with_sums (sealed_to bytes k) k ≡ sealed_to bytes (suc k)
   unfolding with_sums payloads_in

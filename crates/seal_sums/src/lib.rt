@@ -26,9 +26,7 @@ pub fn seal_blocks(b: &mut [u8], blocks: usize)
     requires blocks_le_most_block { blocks ≤ most_block }
     ensures { b.new ≡ sealed sum_start (payloads_in b.old blocks) 0 ++ drop (512 * blocks) b.old }
 {
-    let mut i: usize = 0;
-    while i < blocks {
+    for i in 0..blocks {
         seal_block(b, i);
-        i += 1;
     }
 }

@@ -8,12 +8,11 @@ ghost use Rattle.string_end.specs.Ends.{end_of};
 
 use string_skip::{ScanState, skip_bytes};
 
-// Where the tree that starts after `at` bits ends: the bits read by then and its nodes; or the bit
-// at which it is refused.
+// The end of a tree: the bits read by then, and its nodes.
 #[derive(Clone, Copy)]
-pub enum TreeEnd {
-    Over { next: usize, size: usize },
-    Refused(usize),
+pub struct TreeEnd {
+    pub next: usize,
+    pub size: usize,
 }
 
 // Where the bits end that are in the byte of bit p and before bit n.
@@ -29,16 +28,16 @@ fn end_of_byte(p: usize, n: usize) -> usize
     end
 }
 
-// Where the tree that starts after `at` bits ends.
+// Where the tree that starts after `at` bits ends, or the bit at which it is refused.
 // A loop over bytes and a loop over bits, left by the label at the bit that closes the tree or
 // refuses it.
-pub fn tree_end(b: &[u8], n: usize, at: usize) -> TreeEnd
+pub fn tree_end(b: &[u8], n: usize, at: usize) -> Result<TreeEnd, usize>
     requires at_le_n { at ≤ n }
     requires n_bound { n ≤ 131071 }
     requires n_bound_2 { n ≤ 8 * length b.now }
     ensures { end_of result ≡ tree_end (bits_from b.now at (n - at)) at }
 {
-    let mut end = TreeEnd::Refused(n + 1);
+    let mut end = Err(n + 1);
     // Nodes that are pending besides the one that is read, at first the super-root, and nodes that
     // are still allowed.
     let mut pending: usize = 0;
@@ -73,20 +72,20 @@ pub fn tree_end(b: &[u8], n: usize, at: usize) -> TreeEnd
             // A tree begins with 10, the super-root and its one child: the first bit is not 0, and
             // the second not 1.
             if p == at + opened {
-                end = TreeEnd::Refused(p + 1);
+                end = Err(p + 1);
                 break 'tree;
             }
             // A one adds a pending node, a zero takes one away; none is left to take at the bit
             // that closes the tree.
             if pending + opened == 0 {
-                end = TreeEnd::Over {
+                end = Ok(TreeEnd {
                     next: p + 1,
                     size: 65535 - room,
-                };
+                });
                 break 'tree;
             }
             if room < opened {
-                end = TreeEnd::Refused(p + 1);
+                end = Err(p + 1);
                 break 'tree;
             }
             pending = pending + 2 * opened - 1;

@@ -36,11 +36,9 @@ fn stay_of_each(word: u64, earlier: u64, pending: u64) -> u64
     // one.
     let mut height = pending * 0x0101010101010101 + 2 * earlier + 0x4850586068707880;
     let mut stay: u64 = 0x8080808080808080;
-    let mut i: u32 = 0;
-    while i < 8 {
+    for i in 0..8 {
         height = height - 0x0101010101010101 + 2 * bit_of_each(word, i);
-        stay = stay & height;
-        i += 1;
+        stay &= height;
     }
     stay
 }

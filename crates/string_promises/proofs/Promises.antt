@@ -33,7 +33,7 @@ use Rattle.theorems.proofs.Promises.{string_back, string_accepted}
 use Rattle.string_end_laws.specs.Ends.{tree_end}
 use Rattle.string_end_laws.proofs.Ends.{over-within, refused-within, one-refused, one-whole, one-past}
 use Rattle.string_end.specs.declared.TreeEnd.{TreeEnd}
-use Rattle.string_end.specs.declared.TreeEnd.TheVariants.{Over, Refused}
+use Rattle.std.specs.Prelude.{Result, Ok, Err}
 use Rattle.string_end.specs.Ends.{end_of}
 use Rattle.string_end.specs.Numbers.{end_row}
 use Rattle.parents_check.proofs.Refusing.{passes}
@@ -144,24 +144,24 @@ read_then_written bytes L out bytes' b room e =
 -- ---- by the end of the tree
 
 -- the row of code 4 decides as that of the end
-row_by_end : {A : Type 0} (before : A) (rest : List Row) (a : Answer) (after : A) (bits : List Bit) (end : TreeEnd) → end_of end ≡ tree_end bits 0
+row_by_end : {A : Type 0} (before : A) (rest : List Row) (a : Answer) (after : A) (bits : List Bit) (end : Result TreeEnd ℕ) → end_of end ≡ tree_end bits 0
     → settle before (4 at place one bits when ltb 0 (place one bits) ∷ rest) a after ≡ settle before (end_row end (length bits) ∷ rest) a after
-row_by_end before rest a after bits (Refused x) e =
+row_by_end before rest a after bits (Err x) e =
     let p = one-refused bits (sym e) in
     let w = refused-within bits 0 (sym e) in
     ap₂ (λ n b. settle before (4 at n when b ∷ rest) a after) p (lt-ltb 0 (place one bits) (omega arith))
-row_by_end before rest a after bits (Over q s) e =
+row_by_end before rest a after bits (Ok end) e =
     let w = over-within bits 0 (sym e) in
-    elim (dec_lt q (length bits)) [
+    elim (dec_lt end.next (length bits)) [
       | yes l ↦
           let p = one-past bits (sym e) l in
-          ap₂ (λ n b. settle before (4 at n when b ∷ rest) a after) (p ∙ sym (add-one q))
-          (lt-ltb 0 (place one bits) (omega arith) ∙ sym (unequal q (length bits) (λ z. omega arith)))
+          ap₂ (λ n b. settle before (4 at n when b ∷ rest) a after) (p ∙ sym (add-one end.next))
+          (lt-ltb 0 (place one bits) (omega arith) ∙ sym (unequal end.next (length bits) (λ z. omega arith)))
       | no l ↦
-          let h : q ≡ length bits = omega arith in
+          let h : end.next ≡ length bits = omega arith in
           let p = (one-whole bits (sym e) h).0 in
           settle_on before a after (4 at place one bits when ltb 0 (place one bits)) rest (le-ltb 0 (place one bits) (omega arith))
-          ∙ sym (settle_on before a after (end_row (Over q s) (length bits)) rest (equal q (length bits) h))
+          ∙ sym (settle_on before a after (end_row (Ok end) (length bits)) rest (equal end.next (length bits) h))
     ]
 
 pub read_by_end : P.ReadByEnd

@@ -1,6 +1,6 @@
 -- What the two calls of this crate promise together (demand 2, tree strings; demand 3, one string).
 -- Each name is a statement; proofs/Promises.antt has a proof of each.
-use Rattle.std.specs.Prelude.{◌≡◌, false, List, [], ◌∷◌, ◌↔◌, ℕ, ◌+◌, ◌*◌, ◌≤◌, ◌<◌, length, take}
+use Rattle.std.specs.Prelude.{Result, ◌≡◌, false, List, [], ◌∷◌, ◌↔◌, ℕ, ◌+◌, ◌*◌, ◌≤◌, ◌<◌, length, take}
 use Rattle.meaning.specs.Trees.{Tree, nodes}
 use Rattle.meaning.specs.Parents.{parents}
 use Rattle.meaning.specs.Strings.{lbs, parents_of}
@@ -48,7 +48,7 @@ StringAcceptedExactly = (bytes : List ℕ) (L : ℕ) (out : List ℕ) → AreByt
 -- where the sizes are right and no leftover bit is set, reading comes to the numbers of the end of
 -- the tree that the bits begin
 abbrev pub ReadByEnd : Type 0
-ReadByEnd = (bytes : List ℕ) (L : ℕ) (out : List ℕ) (end : TreeEnd) → L ≤ 131071 → length bytes ≡ bytes_for L → leftover bytes L ≡ false
+ReadByEnd = (bytes : List ℕ) (L : ℕ) (out : List ℕ) (end : Result TreeEnd ℕ) → L ≤ 131071 → length bytes ≡ bytes_for L → leftover bytes L ≡ false
     → let bits = bits_from bytes 0 L in
     end_of end ≡ tree_end bits 0
     → parents_of_string bytes L out

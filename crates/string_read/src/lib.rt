@@ -8,7 +8,6 @@ ghost use Rattle.meaning.specs.Strings.{ones, parents_of};
 ghost use Rattle.string_read.specs.Entered.{entered};
 
 use bits_byte::bit_of;
-use bits_wide::wide_byte;
 
 // Is a leftover bit set, after the first `n` bits of `b`?
 pub fn leftover_set(b: &[u8], n: usize) -> bool
@@ -33,11 +32,9 @@ fn write_byte(x: u8, p: usize, k: usize, out: &mut [u32]) -> usize
     ensures { (result ≡ k + ones (bits_from (x ∷ []) 0 8)) × (out.new ≡ entered (bits_from (x ∷ []) 0 8) k p out.old) }
 {
     let mut next = k;
-    let mut bit: usize = 0;
-    while bit < 8 {
+    for bit in 0..8 {
         out[next] = (p + bit - next) as u32;
         next += bit_of(x, bit);
-        bit += 1;
     }
     next
 }
@@ -53,7 +50,8 @@ pub fn write_parents(b: &[u8], n: usize, nodes: usize, out: &mut [u32])
 {
     let mut k: usize = 0;
     let mut i: usize = 0;
-    // as long as eight entries are left, what a byte's last zeros write is among them
+    // as long as eight entries are left, what a byte's last zeros write is among them; both loops
+    // go on until the entries are written, and only the bits tell how far that is
     while k + 8 <= nodes {
         k = write_byte(b[i], 8 * i, k, out);
         i += 1;
@@ -61,7 +59,7 @@ pub fn write_parents(b: &[u8], n: usize, nodes: usize, out: &mut [u32])
     let mut p = 8 * i;
     while k < nodes {
         out[k] = (p - k) as u32;
-        k = k + wide_byte(bits_byte::bit_at(b, p));
+        k += bits_byte::bit_at(b, p) as usize;
         p += 1;
     }
 }

@@ -5,7 +5,6 @@ ghost use Rattle.std.specs.Prelude.{◌≡◌, ◌+◌, ◌-◌, ◌*◌, ◌/�
 ghost use Rattle.bits_word.specs.Little.{little};
 ghost use Rattle.string_skip.specs.Strides.{ReadOn, Stands};
 
-use bits_wide::byte_to_u64;
 use bits_word::stored_word;
 use string_pass::bytes_passed;
 
@@ -26,10 +25,8 @@ fn last_word(b: &[u8], at: usize, end: usize) -> u64
     ensures { result ≡ little b.now at (end - at) }
 {
     let mut word: u64 = 0;
-    let mut i = end;
-    while at < i {
-        i -= 1;
-        word = word * 256 + byte_to_u64(b[i]);
+    for i in (at..end).rev() {
+        word = word * 256 + u64::from(b[i]);
     }
     word
 }

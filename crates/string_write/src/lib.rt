@@ -6,8 +6,6 @@ ghost use Rattle.meaning.specs.Parents.{bad_entry};
 ghost use Rattle.meaning.specs.Strings.{string_of};
 ghost use Rattle.bits_append.specs.Appended.{appended};
 
-use bits_wide::wide;
-
 // Writes the string of a parent list after the first `from` bits of a buffer: zeros, and among them
 // a one for each entry, which comes after the ones of earlier entries and as many zeros as the
 // entry says.
@@ -20,9 +18,7 @@ pub fn write_string(buf: &mut [u8], from: usize, ps: &[u32])
     ensures { buf.new ≡ appended buf.old from (string_of ps.now) }
 {
     bits_append::blank(buf, from, 2 * ps.len() + 1);
-    let mut i: usize = 0;
-    while i < ps.len() {
-        bits_byte::set_bit(buf, from + i + wide(ps[i]));
-        i += 1;
+    for (i, p) in ps.iter().enumerate() {
+        bits_byte::set_bit(buf, from + i + *p as usize);
     }
 }

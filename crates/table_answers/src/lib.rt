@@ -1,20 +1,15 @@
-// Answers and verdicts made: a refusal, code 0 with its counts, a row by itself, the upper of two.
+// Answers made: a refusal, code 0 with its counts, a row of the table by itself.
 #![tactic(auto)]
 
-ghost use Rattle.std.specs.Prelude.{◌≡◌};
-ghost use Rattle.meaning.specs.Answers.{◌at◌when◌, alone, counts, over, refused_with};
+ghost use Rattle.std.specs.Prelude.{Err, ◌≡◌};
+ghost use Rattle.meaning.specs.Answers.{◌at◌when◌, alone, answer_of, counts};
 
-use meaning::{Answer, Refusal, Verdict};
+use meaning::{Answer, Refusal};
 
-pub fn refuse(code: u32, place: u32) -> Answer
-    ensures { result ≡ refused_with code place }
+pub fn refuse(code: u32, place: u32) -> Result<Answer, Refusal>
+    ensures { result ≡ Err (record { code = code; place = place }) }
 {
-    Answer {
-        code: code,
-        place: place,
-        first: 0,
-        second: 0,
-    }
+    Err(Refusal { code, place })
 }
 
 pub fn done(first: u32, second: u32) -> Answer
@@ -23,30 +18,24 @@ pub fn done(first: u32, second: u32) -> Answer
     Answer {
         code: 0,
         place: 0,
-        first: first,
-        second: second,
+        first,
+        second,
     }
+}
+
+// What a caller gets: the answer, or the refusal.
+pub fn answered(made: Result<Answer, Refusal>) -> Answer
+    ensures { result ≡ answer_of made }
+{
+    made.unwrap_or_else(Answer::from)
 }
 
 // A row of the table by itself.
-pub fn row(holds: bool, code: u32, place: u32) -> Verdict
+pub fn row(holds: bool, code: u32, place: u32) -> Result<(), Refusal>
     ensures { result ≡ alone (code at place when holds) }
 {
     if holds {
-        return Verdict::Refused(Refusal {
-            code: code,
-            place: place,
-        });
+        return Err(Refusal { code, place });
     }
-    Verdict::Passed
-}
-
-// Of two verdicts, the upper one wins.
-pub fn upper(first: Verdict, second: Verdict) -> Verdict
-    ensures { result ≡ over first second }
-{
-    match first {
-        Verdict::Refused(refusal) => Verdict::Refused(refusal),
-        Verdict::Passed => second,
-    }
+    Ok(())
 }

@@ -1,5 +1,6 @@
 -- How deep a tree is, by where its levels begin: it has at most 64 levels exactly if the 65th
 -- begins after its last node.
+use Rattle.std.specs.Prelude.{Ok, Err}
 use mathlib.Core.Path.{◌≡◌, refl, sym, ap, ◌∙◌}
 use mathlib.Core.List.{List}
 use Prim.Native.Nat.{ℕ, zero, suc, ◌+◌, ◌-◌, ◌/◌, ◌≤◌, ◌<◌}
@@ -15,7 +16,6 @@ use Rattle.theory.specs.Rank.{ones_before, counting}
 use Rattle.theory.proofs.Parents.{parents_are}
 use Rattle.theory.proofs.Forms.{length-parents}
 use Rattle.theory.proofs.Navigate.{counted, children_are}
-use Rattle.list_measure.specs.declared.Measured.TheVariants.{Fits, TooDeep}
 use Rattle.list_measure.specs.Levels.{sized, size_of, levels_from}
 use Rattle.list_measure.proofs.Levels.{levels-end, levels-deep, levels_more, levels-size}
 use Rattle.text_walk.specs.Walk.{low, start}
@@ -61,20 +61,20 @@ module _ (t : Tree) where
   abbrev next : ℕ → ℕ
   next a = low t (suc a)
 
-  some-deep : (l e n : ℕ) → start t (e + l) < nodes t → levels_from next l (start t e) (start t (suc e)) n ≡ TooDeep (suc (start t (e + l)))
+  some-deep : (l e n : ℕ) → start t (e + l) < nodes t → levels_from next l (start t e) (start t (suc e)) n ≡ Err (suc (start t (e + l)))
   unfolding start
   some-deep zero e n h =
       let q : e + 0 ≡ e = omega arith in
       levels-deep next 0 (start t e) (start t (suc e)) n refl (start-later e (omega (arith, ap (start t) q)))
-      ∙ ap (λ k. TooDeep (suc (start t k))) (sym q)
+      ∙ ap (λ k. Err (suc (start t k))) (sym q)
   some-deep (suc l) e n h =
       let q : e + suc l ≡ suc e + l = omega arith in
       levels_more next (suc l) (start t e) (start t (suc e)) n (omega arith) (start-later e (omega (arith, start_upto e (suc l))))
       ∙ ap (λ k. levels_from next k (start t (suc e)) (start t (suc (suc e))) (n + (start t (suc e) - start t e))) (let s : suc l - 1 ≡ l = omega arith in s)
       ∙ some-deep l (suc e) (n + (start t (suc e) - start t e)) (omega (arith, ap (start t) q))
-      ∙ ap (λ k. TooDeep (suc (start t k))) (sym q)
+      ∙ ap (λ k. Err (suc (start t k))) (sym q)
 
-  none_deep : (l e n : ℕ) → nodes t ≤ start t (e + l) → (k : ℕ) × (levels_from next l (start t e) (start t (suc e)) n ≡ Fits k)
+  none_deep : (l e n : ℕ) → nodes t ≤ start t (e + l) → (k : ℕ) × (levels_from next l (start t e) (start t (suc e)) n ≡ Ok k)
   unfolding start
   none_deep zero e n h =
       (n, levels-end next 0 (start t e) (start t (suc e)) n (omega (arith, start_most (suc e), ap (start t) (let q : e + 0 ≡ e = omega arith in q))))
@@ -105,11 +105,11 @@ module _ (t : Tree) where
       ap (λ z. levels_from next 64 0 z 0) (low-one t)
       ∙ levels-size (parents t) (low t) (λ z. low_upto t z (suc z) (omega arith)) kids 1 (omega arith)
 
-  deep_tells : (d n w : ℕ) → sized d n ≡ TooDeep w → d ≡ w
+  deep_tells : (d n w : ℕ) → sized d n ≡ Err w → d ≡ w
   deep_tells zero n w e = let z : ◌≡◌ {A = ℕ} 0 1 = cc in absurd (omega arith)
   deep_tells (suc d) n w e = cc
 
-  fits_tells : (d n k : ℕ) → sized d n ≡ Fits k → d ≡ 0
+  fits_tells : (d n k : ℕ) → sized d n ≡ Ok k → d ≡ 0
   fits_tells zero n k e = refl
   fits_tells (suc d) n k e = let z : ◌≡◌ {A = ℕ} 0 1 = cc in absurd (omega arith)
 

@@ -9,6 +9,9 @@ use lib.Seq.{get_or-set_same, get_or-set_other}
 use Rattle.meaning.specs.Trees.{Tree, nodes}
 use Rattle.meaning.specs.Parents.{parents, entry}
 use Rattle.meaning.specs.Listing.{listing, deep}
+use Rattle.std.specs.Prelude.{Some, None}
+use Rattle.theory.specs.Places.{place_of}
+use Rattle.theory.proofs.Places.{place_of-none, place_of-some}
 use Rattle.text_walk.specs.Walk.{low, start, Started}
 use Rattle.text_walk.proofs.Walk.{low_upto, placed}
 use Rattle.text_levels.proofs.Depth.{above, start_most, start_upto, too_deep_lem, not-deep}
@@ -58,8 +61,11 @@ module _ (t : Tree) where
       begins = omega (arith, f.upto, next_start, (placed t i h).0, low_upto t (suc before) (entry (parents t) (suc i)) (omega arith))
 
       -- a 65th one
-      pub finding_deep : level ≡ 64 → i + 1 ≡ deep (listing 65 (parents t) 1 0)
-      finding_deep e = let q = begins ∙ ap (start t) e in omega (arith, q, too_deep_lem t (omega (arith, q)))
+      pub finding_deep : level ≡ 64 → Some (i + 1) ≡ place_of (deep (listing 65 (parents t) 1 0))
+      finding_deep e =
+          let q = begins ∙ ap (start t) e in
+          let d : i + 1 ≡ deep (listing 65 (parents t) 1 0) = omega (arith, q, too_deep_lem t (omega (arith, q))) in
+          ap (λ p. Some p) d ∙ sym (place_of-some _ (omega arith))
 
       -- the next one
       pub finding_next : level < 65 → Finding t (set levels (level + 1) i) (level + 1) i (i + 1)
@@ -99,5 +105,5 @@ module _ (t : Tree) where
         last = over 64 few;
       }
 
-      pub finding_fits : 0 ≡ deep (listing 65 (parents t) 1 0)
-      finding_fits = not-deep t (over 64 few)
+      pub finding_fits : None ≡ place_of (deep (listing 65 (parents t) 1 0))
+      finding_fits = sym (place_of-none _ (sym (not-deep t (over 64 few))))

@@ -13,9 +13,10 @@ use lib.Seq.{drop-cons, get_or-set_same, get_or-set_other}
 use Rattle.meaning.specs.Strings.{Bit}
 use Rattle.meaning.specs.Text.{is_blank, brackets_in, Reading, inside, over, wrong, too_deep, closed, step, broken, deeper, read_from, read_within, read_text}
 use Rattle.text_laws.proofs.Bytes.{brackets-at}
-use Rattle.text_nesting.specs.declared.Found.{Found}
-use Rattle.text_nesting.specs.declared.Found.TheVariants.{Over, Broken, Deeper}
-use Rattle.text_nesting.specs.Nesting.{tally, open_in, Same, Going, Ready, Stops, NodeRead, ListRead, TextRead}
+use Rattle.std.specs.Prelude.{Ok, Err}
+use Rattle.text_nesting.specs.declared.TextFault.{TextFault}
+use Rattle.text_nesting.specs.declared.TextFault.TheVariants.{Broken, Deeper}
+use Rattle.text_nesting.specs.Nesting.{tally, open_in, Same, Going, Ready, Stops, TextRead}
 
 -- ---- readings that follow one another
 pub then : {text : List ℕ} {a b c : ℕ} {s t u : Reading} {k l m : List ℕ} → Same text a b s t k l → Same text b c t u l m → Same text a c s u k m
@@ -126,31 +127,16 @@ still_inside zero m h = absurd (omega arith)
 still_inside (suc k) m h = refl
 
 -- ---- where what follows stops, the whole stops
-module _ (text k l m : List ℕ) where
-  pub list_stops : (from at left : ℕ) (r : Found) → ((to : ℕ) → r ≡ Over to → ⊥)
-      → Same text from at (inside (64 - left) left) (inside (64 - left) left) k l → NodeRead text at left l r m → ListRead text from left k r m
-  list_stops from at left (Over to) o p g = absurd (o to refl)
-  list_stops from at left (Broken q) o p g = (g.0, g.1, p.read ∙ g.2)
-  list_stops from at left (Deeper q) o p g = (g.0, g.1, p.read ∙ g.2)
+pub stops_before : {text : List ℕ} {a b : ℕ} {s t : Reading} {k l : List ℕ} → Same text a b s t k l → (e : TextFault) → Stops text b t e → Stops text a s e
+stops_before p (Broken q) g = (g.0, g.1, p.read ∙ g.2)
+stops_before p (Deeper q) g = (g.0, g.1, p.read ∙ g.2)
 
-  pub node_stops : (at left : ℕ) (r : Found) → ((to : ℕ) → r ≡ Over to → ⊥)
-      → Same text at (at + 1) (inside (64 - left) left) (inside (64 - (left - 1)) (left - 1)) k l → ListRead text (at + 1) (left - 1) l r m → NodeRead text at left k r m
-  node_stops at left (Over to) o p g = absurd (o to refl)
-  node_stops at left (Broken q) o p g = (g.0, g.1, p.read ∙ g.2)
-  node_stops at left (Deeper q) o p g = (g.0, g.1, p.read ∙ g.2)
-
-  pub text_stops : (at : ℕ) (r : Found) → ((to : ℕ) → r ≡ Over to → ⊥)
-      → Same text 0 at (inside 0 64) (inside 0 64) k l → NodeRead text at 64 l r m → TextRead text k r m
-  unfolding read_text read_within
-  text_stops at (Over to) o p g = absurd (o to refl)
-  text_stops at (Broken q) o p g = (g.0, g.1, p.read ∙ g.2)
-  text_stops at (Deeper q) o p g = (g.0, g.1, p.read ∙ g.2)
-
-pub text_broken : {text k l : List ℕ} {at : ℕ} {s : Reading} → Same text 0 at (inside 0 64) s k l → (p : ℕ) → Stops text at s (Broken p) → TextRead text k (Broken p) l
+pub text_stops : (m : List ℕ) {text k l : List ℕ} {at : ℕ} {s : Reading} → Same text 0 at (inside 0 64) s k l → (e : TextFault) → Stops text at s e → TextRead text k (Err e) m
 unfolding read_text read_within
-text_broken e p g = (g.0, g.1, e.read ∙ g.2)
+text_stops m p (Broken q) g = (g.0, g.1, p.read ∙ g.2)
+text_stops m p (Deeper q) g = (g.0, g.1, p.read ∙ g.2)
 
-pub text-over : {text k l : List ℕ} {at : ℕ} → Same text 0 at (inside 0 64) over k l → length text ≤ at → Ready text at l → TextRead text k (Over at) l
+pub text-over : {text k l : List ℕ} {at : ℕ} → Same text 0 at (inside 0 64) over k l → length text ≤ at → Ready text at l → TextRead text k (Ok at) l
 unfolding read_text read_within read_from brackets_in tally
 text-over {text} e h r =
     let d = drop_of_length-le text h in

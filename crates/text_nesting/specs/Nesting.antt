@@ -1,9 +1,9 @@
 -- What reading a node or a list of nodes from a text needs and gives.
-use Rattle.std.specs.Prelude.{◌≡◌, false, List, [], ◌∷◌, ℕ, suc, ◌+◌, ◌-◌, ◌≤◌, ◌<◌, length, get_or, set, drop}
+use Rattle.std.specs.Prelude.{◌≡◌, false, List, [], ◌∷◌, ℕ, suc, ◌+◌, ◌-◌, ◌≤◌, ◌<◌, length, get_or, set, drop, Result, Ok, Err}
 use Rattle.meaning.specs.Strings.{Bit, O, I}
 use Rattle.meaning.specs.Text.{is_blank, brackets_in, Reading, inside, over, wrong, too_deep, closed, whole, broken, deeper, read_from, read_text}
-use Rattle.text_nesting.specs.declared.Found.{Found}
-use Rattle.text_nesting.specs.declared.Found.TheVariants.{Over, Broken, Deeper}
+use Rattle.text_nesting.specs.declared.TextFault.{TextFault}
+use Rattle.text_nesting.specs.declared.TextFault.TheVariants.{Broken, Deeper}
 
 -- how many nodes each level has, where o nodes are open and so many were met before: an opening
 -- bracket is a node more at level o + 1
@@ -47,32 +47,30 @@ pub record Ready (text : List ℕ) (at : ℕ) (levels : List ℕ) : Type 0 where
   pub few : (e : ℕ) → get_or levels e 0 ≤ at
 
 -- the reading from byte number `at` on comes to a byte where it stops
-abbrev pub Stops : List ℕ → ℕ → Reading → Found → Type 0
-Stops text at s (Over to) = ⊥
+abbrev pub Stops : List ℕ → ℕ → Reading → TextFault → Type 0
 Stops text at s (Broken p) = (1 ≤ p) × (p ≤ length text + 1) × (read_from (drop at text) at s ≡ broken p)
 Stops text at s (Deeper p) = (1 ≤ p) × (p ≤ length text + 1) × (read_from (drop at text) at s ≡ deeper p)
 
 -- the reading from byte number `at` on stops, or comes to the second state, at a byte for which Q
-abbrev pub Goes : (ℕ → Type 0) → List ℕ → ℕ → Reading → Reading → List ℕ → Found → List ℕ → Type 0
-Goes Q text at s s' levels (Over to) levels' = Q to × Ready text to levels' × Same text at to s s' levels levels'
-Goes Q text at s s' levels (Broken p) levels' = Stops text at s (Broken p)
-Goes Q text at s s' levels (Deeper p) levels' = Stops text at s (Deeper p)
+abbrev pub Goes : (ℕ → Type 0) → List ℕ → ℕ → Reading → Reading → List ℕ → Result ℕ TextFault → List ℕ → Type 0
+Goes Q text at s s' levels (Ok to) levels' = Q to × Ready text to levels' × Same text at to s s' levels levels'
+Goes Q text at s s' levels (Err e) levels' = Stops text at s e
 
 -- a node whose bracket is byte number `at`, with `left` of the 64 levels left, its own among them
-abbrev pub NodeRead : List ℕ → ℕ → ℕ → List ℕ → Found → List ℕ → Type 0
+abbrev pub NodeRead : List ℕ → ℕ → ℕ → List ℕ → Result ℕ TextFault → List ℕ → Type 0
 NodeRead text at left = Goes (λ to. at < to) text at (inside (64 - left) left) (closed (64 - left) left)
 
 -- the nodes from byte number `from` on, inside a node, with `left` levels left for them: up to a
 -- byte that is no blank and no opening bracket
-abbrev pub ListRead : List ℕ → ℕ → ℕ → List ℕ → Found → List ℕ → Type 0
+abbrev pub ListRead : List ℕ → ℕ → ℕ → List ℕ → Result ℕ TextFault → List ℕ → Type 0
 ListRead text from left =
     Goes (λ to. to < length text → (is_blank (get_or text to 0) ≡ false) × (get_or text to 0 ≡ 40 → ⊥)) text from
     (inside (64 - left) left)
     (inside (64 - left) left)
 
 -- the whole text: how its reading ends, and the nodes of each level
-abbrev pub TextRead : List ℕ → List ℕ → Found → List ℕ → Type 0
-TextRead text levels (Over to) levels' =
+abbrev pub TextRead : List ℕ → List ℕ → Result ℕ TextFault → List ℕ → Type 0
+TextRead text levels (Ok to) levels' =
     (read_text text ≡ whole) × (levels' ≡ tally (brackets_in text) 0 levels) × (length levels' ≡ 66) × ((e : ℕ) → get_or levels' e 0 ≤ 1048576)
-TextRead text levels (Broken p) levels' = (1 ≤ p) × (p ≤ length text + 1) × (read_text text ≡ broken p)
-TextRead text levels (Deeper p) levels' = (1 ≤ p) × (p ≤ length text + 1) × (read_text text ≡ deeper p)
+TextRead text levels (Err (Broken p)) levels' = (1 ≤ p) × (p ≤ length text + 1) × (read_text text ≡ broken p)
+TextRead text levels (Err (Deeper p)) levels' = (1 ≤ p) × (p ≤ length text + 1) × (read_text text ≡ deeper p)

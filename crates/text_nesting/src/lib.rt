@@ -15,11 +15,10 @@ const LINE_FEED: u8 = 10;
 
 const CARRIAGE_RETURN: u8 = 13;
 
-// What a reading comes to: the number, from 0, of the byte after what was read; or the byte, from
-// 1, at which the text cannot be continued, or which opens a level too many.
+// What stops a reading: the byte, from 1, at which the text cannot be continued, or which opens a
+// level too many.
 #[derive(Clone, Copy)]
-pub enum Found {
-    Over(usize),
+pub enum TextFault {
     Broken(usize),
     Deeper(usize),
 }
@@ -36,20 +35,18 @@ fn past_blanks(text: &[u8], from: usize) -> usize
     requires { from ≤ length text.now }
     ensures { AfterBlanks text.now from result }
 {
-    let mut at = from;
-    while at < text.len() {
+    for at in from..text.len() {
         if !is_blank(text[at]) {
             return at;
         }
-        at += 1;
     }
-    at
+    text.len()
 }
 
 // A node: byte number `at` is its opening bracket, and `left` of the 64 levels are left, its own
-// among them.
+// among them. Gives the number of the byte after it.
 #[cycle(list_node)]
-fn node(text: &[u8], at: usize, left: u32, levels: &mut [u32; 66]) -> Found
+fn node(text: &[u8], at: usize, left: u32, levels: &mut [u32; 66]) -> Result<usize, TextFault>
     requires ready { Ready text.now at levels.old }
     requires at_in_bounds { at < length text.now }
     requires at_value { get_or text.now at 0 ≡ 40 }
@@ -57,62 +54,46 @@ fn node(text: &[u8], at: usize, left: u32, levels: &mut [u32; 66]) -> Found
     ensures { NodeRead text.now at left levels.old result levels.new }
 {
     if left == 0 {
-        return Found::Deeper(at + 1);
+        return Err(TextFault::Deeper(at + 1));
     }
     let level = 65 - left as usize;
     levels[level] = levels[level] + 1;
-    let found = list(text, at + 1, left - 1, levels);
-    let Found::Over(end) = found else {
-        return found;
-    };
-    if end < text.len() {
-        if text[end] == CLOSING {
-            return Found::Over(end + 1);
-        }
+    let end = list(text, at + 1, left - 1, levels)?;
+    if end < text.len() && text[end] == CLOSING {
+        return Ok(end + 1);
     }
-    Found::Broken(end + 1)
+    Err(TextFault::Broken(end + 1))
 }
 
 // The nodes that follow one another from byte number `from` on, inside a node. It loops over
 // siblings and calls only for what is nested: 65,534 siblings take no stack.
 #[cycle(list_node)]
-fn list(text: &[u8], from: usize, left: u32, levels: &mut [u32; 66]) -> Found
+fn list(text: &[u8], from: usize, left: u32, levels: &mut [u32; 66]) -> Result<usize, TextFault>
     requires ready { Ready text.now from levels.old }
     requires left_bound { left ≤ 63 }
     ensures { ListRead text.now from left levels.old result levels.new }
 {
     let mut at = past_blanks(text, from);
-    while at < text.len() {
-        if text[at] != OPENING {
-            return Found::Over(at);
-        }
-        let found = node(text, at, left, levels);
-        let Found::Over(end) = found else {
-            return found;
-        };
+    while at < text.len() && text[at] == OPENING {
+        let end = node(text, at, left, levels)?;
         at = past_blanks(text, end);
     }
-    Found::Over(at)
+    Ok(at)
 }
 
 // A whole text: blanks, one node and blanks. The nodes of each level are added to `levels`.
-pub fn read_text(text: &[u8], levels: &mut [u32; 66]) -> Found
+pub fn read_text(text: &[u8], levels: &mut [u32; 66]) -> Result<usize, TextFault>
     requires { Ready text.now 0 levels.old }
     ensures { TextRead text.now levels.old result levels.new }
 {
     let first = past_blanks(text, 0);
-    if first < text.len() {
-        if text[first] == OPENING {
-            let found = node(text, first, 64, levels);
-            let Found::Over(end) = found else {
-                return found;
-            };
-            let after = past_blanks(text, end);
-            if after < text.len() {
-                return Found::Broken(after + 1);
-            }
-            return Found::Over(after);
+    if first < text.len() && text[first] == OPENING {
+        let end = node(text, first, 64, levels)?;
+        let after = past_blanks(text, end);
+        if after < text.len() {
+            return Err(TextFault::Broken(after + 1));
         }
+        return Ok(after);
     }
-    Found::Broken(first + 1)
+    Err(TextFault::Broken(first + 1))
 }

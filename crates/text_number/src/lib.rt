@@ -21,12 +21,10 @@ pub fn level_starts(levels: &mut [u32; 66]) -> u32
     ensures by_index_2 { (e : ℕ) → e < 66 → get_or levels.new e 0 ≡ sum_to levels.old e }
 {
     let mut above: u32 = 0;
-    let mut level: usize = 0;
-    while level < 66 {
-        let nodes = levels[level];
-        levels[level] = above;
+    for level in levels.iter_mut() {
+        let nodes = *level;
+        *level = above;
         above += nodes;
-        level += 1;
     }
     above
 }
@@ -39,17 +37,14 @@ pub fn number_nodes(text: &[u8], levels: &mut [u32; 66], out: &mut [u32])
     ensures { out.new ≡ written (parents (tree_in (brackets_in text.now))) out.old }
 {
     let mut open: usize = 0;
-    let mut at: usize = 0;
-    while at < text.len() {
-        let c = text[at];
-        if c == OPENING {
+    for c in text {
+        if *c == OPENING {
             let before = levels[open + 1];
             out[before as usize] = levels[open];
             levels[open + 1] = before + 1;
             open += 1;
-        } else if c == CLOSING {
+        } else if *c == CLOSING {
             open -= 1;
         }
-        at += 1;
     }
 }

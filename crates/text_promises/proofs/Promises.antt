@@ -30,7 +30,8 @@ use Rattle.text_laws.proofs.Places.{broken_first, broken_first_of_all, deeper_fi
 use Rattle.list_measure.specs.Levels.{sized, size_of}
 use Rattle.list_measure.specs.Numbers.{measured_outcome}
 use Rattle.image_promises.proofs.Promises.{listed_by_measure}
-use Rattle.text_nesting.specs.declared.Found.TheVariants.{Over, Broken, Deeper}
+use Rattle.std.specs.Prelude.{Ok, Err}
+use Rattle.text_nesting.specs.declared.TextFault.TheVariants.{Broken, Deeper}
 use Rattle.call_parents_of_text.proofs.Calling.{by_nodes, text_broken, text_deeper}
 use Rattle.text_promises.specs.Promises as P
 use Rattle.text_promises.proofs.Nesting.{nested-there}
@@ -210,6 +211,6 @@ text_too_deep_is_named t out out' small n =
 -- ---- what reading a text finds
 
 pub text_by_found : P.TextByFound
-text_by_found text levels levels' out (Over to) short r = sym (by_nodes text out short r.0)
-text_by_found text levels levels' out (Broken p) short r = text_broken text out short p r.0 r.2
-text_by_found text levels levels' out (Deeper p) short r = text_deeper text out short p r.0 r.2
+text_by_found text levels levels' out (Ok to) short r = sym (by_nodes text out short r.0)
+text_by_found text levels levels' out (Err (Broken p)) short r = text_broken text out short p r.0 r.2
+text_by_found text levels levels' out (Err (Deeper p)) short r = text_deeper text out short p r.0 r.2

@@ -1,6 +1,6 @@
 -- What reading and writing parenthesis text promise (document 02, item 4).
 -- Each name is a statement; proofs/Promises.antt has a proof of each.
-use Rattle.std.specs.Prelude.{◌≡◌, List, ◌↔◌, ◌⊎◌, ℕ, ◌+◌, ◌-◌, ◌*◌, ◌≤◌, ◌<◌, length, get_or, take}
+use Rattle.std.specs.Prelude.{◌≡◌, List, ◌↔◌, ◌⊎◌, ℕ, ◌+◌, ◌-◌, ◌*◌, ◌≤◌, ◌<◌, length, get_or, take, Result}
 use Rattle.std.proofs.Math.Option.{none}
 use Rattle.meaning.specs.Trees.{Tree, nodes}
 use Rattle.meaning.specs.Strings.{ones, zeros}
@@ -12,7 +12,7 @@ use Rattle.meaning.specs.Text.{without_blanks, text_of, brackets_in}
 use Rattle.meaning.specs.Answers.{came_to, counts, refused_with, written}
 use Rattle.calls.specs.Calls.{list_image, parents_of_text, text_of_parents}
 use Rattle.theory.specs.Walks.{root, everything, AllBelow, FirstAt}
-use Rattle.text_nesting.specs.declared.Found.{Found}
+use Rattle.text_nesting.specs.declared.TextFault.{TextFault}
 use Rattle.text_nesting.specs.Nesting.{TextRead}
 use Rattle.text_nesting.specs.Numbers.{found_outcome}
 use Rattle.text_laws.specs.Texts.{Within, IsText, BeginsText, SomeText, BeginsSome}
@@ -117,4 +117,4 @@ TextTooDeepIsNamed = (t : Tree) (out out' : List ℕ) → nodes t ≤ 65535 → 
 
 -- a text that is not too long comes to the numbers of what its reading answers
 abbrev pub TextByFound : Type 0
-TextByFound = (text levels levels' out : List ℕ) (found : Found) → length text ≤ 1048576 → TextRead text levels found levels' → found_outcome found text out ≡ parents_of_text text out
+TextByFound = (text levels levels' out : List ℕ) (found : Result ℕ TextFault) → length text ≤ 1048576 → TextRead text levels found levels' → found_outcome found text out ≡ parents_of_text text out

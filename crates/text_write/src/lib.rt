@@ -7,17 +7,13 @@ ghost use Rattle.meaning.specs.Text.{text_of};
 ghost use Rattle.meaning.specs.Answers.{written};
 ghost use Rattle.text_write.specs.Writing.{is_child, ToWrite};
 
-use bits_wide::wide;
 use meaning::{CLOSING, OPENING};
 
 // Whether the node after number `before` is there, and a child of node x.
 fn is_child(parents: &[u32], before: usize, x: u32) -> bool
     ensures { result ≡ is_child parents.now before x }
 {
-    if before < parents.len() {
-        return parents[before] == x;
-    }
-    false
+    before < parents.len() && parents[before] == x
 }
 
 // Writes the brackets: where the next node of the level below the innermost open node is its child,
@@ -26,12 +22,10 @@ pub fn write_brackets(parents: &[u32], levels: &mut [u32; 66], text: &mut [u8])
     requires { ToWrite parents.now levels.old text.old }
     ensures { text.new ≡ written (text_of (bracketing parents.now)) text.old }
 {
-    let bytes = 2 * parents.len();
     let mut open: usize = 0;
-    let mut at: usize = 0;
-    while at < bytes {
+    for at in 0..2 * parents.len() {
         let before = levels[open + 1];
-        if is_child(parents, wide(before), levels[open]) {
+        if is_child(parents, before as usize, levels[open]) {
             text[at] = OPENING;
             levels[open + 1] = before + 1;
             open += 1;
@@ -39,6 +33,5 @@ pub fn write_brackets(parents: &[u32], levels: &mut [u32; 66], text: &mut [u8])
             text[at] = CLOSING;
             open -= 1;
         }
-        at += 1;
     }
 }

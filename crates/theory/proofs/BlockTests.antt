@@ -1,24 +1,23 @@
 -- The payload of a block against the one it should be: by its words, and by what is looked at in
 -- it.
-use mathlib.Core.Path.{◌≡◌, refl, sym, ap, ap₂, ◌∙◌, subst}
+use mathlib.Core.Path.{◌≡◌, sym, ap, ap₂, ◌∙◌}
 use mathlib.Core.Logic.{◌↔◌}
 use mathlib.Core.Bool.{true}
-use mathlib.Core.List.{List, [], ◌++◌}
+use mathlib.Core.List.{List, ◌++◌}
 use Prim.Native.Nat.{ℕ, zero, suc, ◌+◌, ◌-◌, ◌*◌, ◌/◌, ◌%◌, ◌^◌, ◌≤◌, ◌<◌}
-use native.Mathlib.Decide.{dec_lt}
 use native.Mathlib.Omega.{arith}
 use lib.ListN.{length, get_or, take, drop, length-take, length-drop, get_or-eq_default}
 use lib.Seq.{get_or-append-add, get_or-take, get_or-drop, ext_get_or, length-take-le}
 use Rattle.meaning.specs.Strings.{Bit, O, ones}
 use Rattle.meaning.specs.Bytes.{bit, bit_at, bytes_of}
-use Rattle.meaning.specs.Blocks.{le32, word_bytes, padded, same}
+use Rattle.meaning.specs.Blocks.{le32, padded, same}
 use Rattle.meaning.specs.Image.{string_blocks, samples, string_in}
 use Rattle.meaning.specs.Faults.{payload_at, whole, zero_after}
-use Rattle.theory.specs.Layout.{AreBytes, word_at, bit_place, string_word, sample_word}
+use Rattle.theory.specs.Layout.{AreBytes, word_at, bit_place, string_word}
 use Rattle.theory.specs.Faults.{BlockKept, RestKept, BlockSampled}
 use Rattle.theory.proofs.Digits.{bytes_of-bit, take_bytes, drop_bytes, word_at-take, word_at-drop, length-word_bytes, words_bytes, same-words}
 use Rattle.theory.proofs.Sealing.{same_refl, same-eq, length-padded, padded-at, padded_bytes, padded-word}
-use Rattle.theory.proofs.Payloads.{length-samples, sample_word_lem, string-word, string_bytes}
+use Rattle.theory.proofs.Payloads.{sample_word_lem, string-word, string_bytes}
 use Rattle.theory.proofs.Images.{string_payload, list_payload, sample_payload}
 use Rattle.theory.proofs.TreeImages.{length-string_in}
 use Rattle.theory.proofs.InBlocks.{string_in-take}

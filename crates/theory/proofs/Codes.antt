@@ -1,5 +1,6 @@
 -- What the code of an answer tells of the rows that it was settled by: which did not hold, and
 -- which did.
+use Rattle.std.specs.Prelude.{Err}
 use mathlib.Core.Path.{◌≡◌, refl, sym, ap, ◌∙◌}
 use mathlib.Core.Bool.{Bool, true, false, true≢false, not, ◌||◌}
 use mathlib.Core.List.{List, [], ◌∷◌, ◌++◌}
@@ -12,7 +13,6 @@ use Rattle.meaning.specs.Trees.{Tree, nodes}
 use Rattle.meaning.specs.Parents.{parents, bad_entry}
 use Rattle.meaning.specs.declared.Answer.{Answer}
 use Rattle.meaning.specs.declared.Refusal.{Refusal}
-use Rattle.meaning.specs.declared.Verdict.TheVariants.{Refused}
 use Rattle.meaning.specs.Answers.{Row, refused_with, came_to, first_holding, settle}
 use Rattle.meaning.specs.Tests.{outside, wrong_count, check_rows}
 use Rattle.theory.specs.Rows.{NoneHolds}
@@ -53,13 +53,13 @@ unfolding check_rows
 check_refuses bytes w rest o = (omega arith, (omega arith, (omega arith, (omega arith, (omega arith, (omega arith, (omega arith, o)))))))
 
 -- a code that no row has is no refusal's
-pub first-other : (c : ℕ) (rows : List Row) → Others c rows → {x : Refusal} → first_holding rows ≡ Refused x → x.code ≡ c → ⊥
+pub first-other : (c : ℕ) (rows : List Row) → Others c rows → {x : Refusal} → first_holding rows ≡ Err x → x.code ≡ c → ⊥
 first-other c [] o e z = clash (sym e ∙ first-none)
 first-other c (r ∷ rs) o {x} e z = go r.holds refl (λ f. first-other c rs o.1 (sym (first_on r rs f) ∙ e) z)
   where
     go : (b : Bool) → r.holds ≡ b → (r.holds ≡ false → ⊥) → ⊥
     go true f later =
-        let q : Refused x ≡ Refused (refusal_of r) = sym e ∙ first-here r rs f in
+        let q : Err x ≡ Err (refusal_of r) = sym e ∙ first-here r rs f in
         let same : x ≡ refusal_of r = cc in
         o.0 (sym (ap (λ y. y.code) same) ∙ z)
     go false f later = later f

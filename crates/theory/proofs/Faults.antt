@@ -3,29 +3,28 @@ use mathlib.Core.Path.{◌≡◌, refl, sym, ap, ap₂, ◌∙◌, subst}
 use mathlib.Core.Logic.{◌↔◌}
 use mathlib.Core.Bool.{Bool, true, false, true≢false, cond, ◌&&◌}
 use mathlib.Core.List.{List, [], ◌∷◌, ◌++◌, map}
-use Prim.Native.Nat.{ℕ, zero, suc, ◌+◌, ◌-◌, ◌*◌, ◌/◌, ◌%◌, ◌^◌, ◌≤◌, ◌<◌}
+use Prim.Native.Nat.{ℕ, zero, suc, ◌+◌, ◌*◌, ◌^◌, ◌≤◌, ◌<◌}
 use native.Mathlib.Decide.{dec_lt}
 use native.Mathlib.Omega.{arith}
 use borrow.Author.Tests.{leb-true, le-leb, eqb-true, eq-eqb}
 use lib.Dec.{leb, eqb}
 use lib.ListN.{length, get_or, take, drop, length-map, length-append, get_or-eq_default}
-use lib.Seq.{get_or-take, get_or-drop, ext_get_or, length-take-le}
+use lib.Seq.{length-take-le}
 use Rattle.meaning.specs.Trees.{Tree, nodes}
 use Rattle.meaning.specs.Parents.{parents, IsParents}
 use Rattle.meaning.specs.Strings.{Bit, O, I, ones, lbs, R1, R0, parents_of, string_of, woven}
 use Rattle.meaning.specs.Bytes.{value}
-use Rattle.meaning.specs.Blocks.{word_bytes, padded, sealed, sum_start, same, blocks_in, wrong_block}
+use Rattle.meaning.specs.Blocks.{word_bytes, padded, same, blocks_in}
 use Rattle.meaning.specs.Image.{list_of, list_part, string_blocks, samples, string_part, sample_part, header_word, string_in, parents_in, metres_in, is_tree}
 use Rattle.meaning.specs.Faults.{some_tree, is_header, r1_in, r0_in, same_bits, are_strings, payload_at, whole, zero_after, lowest_failing, wrong_kept, wrong_sample}
 use Rattle.theory.specs.Layout.{Runs, AreBytes, word_at}
 use Rattle.theory.specs.Stages.{version_in, nodes_of, runs_of, held_in, word_blocks, samples_of, metres_block, blocks_of_samples, r0_block}
 use Rattle.theory.specs.Stages.{r1_samples, blocks_needed, read_r1, read_r0, Header, Ended, InStep, CountsAndPadding, MetresEnd}
 use Rattle.theory.specs.Faults.{LowestWrong, BlockKept, RestKept, BlockSampled}
-use Rattle.theory.proofs.Bits.{I≢O}
 use Rattle.theory.proofs.Parents.{are_parents, parents_are}
 use Rattle.theory.proofs.Digits.{word_lt, take_bytes, words_bytes, word_bytes-at, word_at-take, same-words}
 use Rattle.theory.proofs.Navigate.{parents-bits}
-use Rattle.theory.proofs.Forms.{length-parents, length-R1, length-R0, string-parents, string_parts, tree_of_parts, tree-runs, tree_rule, runs-ones}
+use Rattle.theory.proofs.Forms.{length-parents, length-R1, string-parents, string_parts, tree_of_parts, tree-runs, tree_rule, runs-ones}
 use Rattle.theory.proofs.Sealing.{and_both, same_refl, same-eq, length-padded, padded_bytes, padded-word}
 use Rattle.theory.proofs.TreeImages.{header_at, length-string_in, is_tree_lem}
 use Rattle.theory.proofs.InStep.{runs_ended, in_step}
@@ -33,7 +32,7 @@ use Rattle.theory.proofs.Payloads.{length-samples, list_word_lem}
 use Rattle.theory.proofs.Images.{list_payload, length-string, length_list, string_part_lem, list_part_lem}
 use Rattle.theory.proofs.Stages.{metres-count, metre_word, metres_small, parents_read, blocks-kept}
 use Rattle.theory.proofs.LowestWrong.{lowest-one, lowest-none, failing_is, is_failing, first_fails, first_passes}
-use Rattle.theory.proofs.BlockTests.{whole_is, whole_words, kept_tested, sampled_tested, rest_tested}
+use Rattle.theory.proofs.BlockTests.{whole_words, kept_tested, sampled_tested, rest_tested}
 
 -- ---- 12: the header
 
@@ -269,7 +268,8 @@ module _ (bytes : List ℕ) where
             (subst (λ x. IsParents (parents_of (woven x (read_r0 bytes)))) a (subst (λ y. IsParents (parents_of (woven (R1 (lbs t)) y))) b (tree_rule t))),
       )
 
-  pub staged_strings : 504 ≤ length bytes → 1 ≤ nodes_of bytes → nodes_of bytes ≤ 65535 → Ended (runs_of bytes) (read_r1 bytes) → Ended (runs_of bytes) (read_r0 bytes) → InStep (read_r1 bytes) (read_r0 bytes)
+  pub staged_strings : 504 ≤ length bytes → 1 ≤ nodes_of bytes → nodes_of bytes ≤ 65535 → Ended (runs_of bytes) (read_r1 bytes) → Ended (runs_of bytes) (read_r0 bytes)
+      → InStep (read_r1 bytes) (read_r0 bytes)
       → Strings bytes
   unfolding parents_of
   staged_strings long some most ended1 ended0 step =
@@ -401,9 +401,11 @@ module _ (bytes : List ℕ) (long : 504 ≤ length bytes) (ended1 : Ended (runs_
         front-last : lowest_failing front bytes 1 ≡ after_samples bytes (read_r0 bytes) (r1_samples n + blocks_of_samples m)
         front-last =
             rests_first
-            ∙ group_second bytes zero_after (sample_part (read_r1 bytes)) (sample_part (read_r0 bytes)) (r1_samples n) (r1_samples n + blocks_of_samples m) (omega arith) (omega (arith, tables1)) right_s1
+            ∙ group_second bytes zero_after (sample_part (read_r1 bytes)) (sample_part (read_r0 bytes)) (r1_samples n) (r1_samples n + blocks_of_samples m)
+            (omega arith) (omega (arith, tables1)) right_s1
 
-        pub kept_after_S0 : (after_samples bytes (read_r0 bytes) (r1_samples n + blocks_of_samples m) ≡ 0 → ⊥) → wrong_kept bytes ≡ after_samples bytes (read_r0 bytes) (r1_samples n + blocks_of_samples m)
+        pub kept_after_S0 : (after_samples bytes (read_r0 bytes) (r1_samples n + blocks_of_samples m) ≡ 0 → ⊥)
+            → wrong_kept bytes ≡ after_samples bytes (read_r0 bytes) (r1_samples n + blocks_of_samples m)
         kept_after_S0 wrong = kept-front (after_samples bytes (read_r0 bytes) (r1_samples n + blocks_of_samples m)) wrong front-last
 
         pub kept-after-metres : Ended m (read_r0 bytes) → after_samples bytes (read_r0 bytes) (r1_samples n + blocks_of_samples m) ≡ 0 → wrong_kept bytes ≡ in_metres bytes (metres_block n m)

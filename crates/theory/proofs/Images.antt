@@ -1,7 +1,7 @@
 -- The image of two strings and of the metres word by word, and back: bytes with those words are
 -- that image.
 use mathlib.Core.Path.{◌≡◌, refl, sym, ap, ◌∙◌, subst}
-use mathlib.Core.List.{List, [], ◌∷◌, ◌++◌, map}
+use mathlib.Core.List.{List, [], ◌∷◌, ◌++◌}
 use mathlib.Core.Option.{Option, none, some}
 use Prim.Native.Nat.{ℕ, zero, suc, ◌+◌, ◌-◌, ◌*◌, ◌^◌, ◌≤◌, ◌<◌}
 use native.Mathlib.Decide.{dec_lt}
@@ -300,7 +300,8 @@ module _ (bytes : List ℕ) (ms : Option (List ℕ)) (a b : List Bit) (la : leng
   agree i w (in_s0 j h e) g = subst (Agree w) e (l.in_s0 j w h g ∙ sym (word_S0 ms a b la lb measured j w h g))
   agree i w (in_metres j h e) g = subst (Agree w) e (l.in_metres j w h g ∙ sym (word-metres ms a b la lb measured j w h g))
 
-pub unlaid : (bytes : List ℕ) (ms : Option (List ℕ)) (a b : List Bit) → length a ≤ 65535 → length b ≤ 65536 → Measured (length a) ms → AreBytes bytes → Laid bytes ms a b → bytes ≡ image_of_parts ms a b
+pub unlaid : (bytes : List ℕ) (ms : Option (List ℕ)) (a b : List Bit) → length a ≤ 65535 → length b ≤ 65536 → Measured (length a) ms
+    → AreBytes bytes → Laid bytes ms a b → bytes ≡ image_of_parts ms a b
 unfolding Agree
 unlaid bytes ms a b la lb measured h l =
     let n = length-blocks ms a b in

@@ -31,3 +31,4 @@ pub mod BlockTests
 pub mod Faults
 pub mod NoFault
 pub mod Tables
+pub mod Places

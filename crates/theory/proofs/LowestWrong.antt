@@ -1,13 +1,13 @@
 -- The lowest block whose payload fails its test: it is the lowest wrong one, there is one such
 -- number, and that of two groups of blocks is that of the first or of the second.
-use mathlib.Core.Path.{◌≡◌, refl, sym, ap, ap₂, ◌∙◌, subst}
+use mathlib.Core.Path.{◌≡◌, refl, sym, ap, ◌∙◌, subst}
 use mathlib.Core.Bool.{Bool, true, false, true≢false, cond}
 use mathlib.Core.List.{List, [], ◌∷◌, ◌++◌, map}
 use mathlib.Core.Logic.{◌↔◌}
 use Prim.Native.Nat.{ℕ, zero, suc, ◌+◌, ◌≤◌, ◌<◌}
 use native.Mathlib.Decide.{dec_lt}
 use native.Mathlib.Omega.{arith}
-use lib.ListN.{length, get_or, length-map, get_or-map}
+use lib.ListN.{length, get_or}
 use Rattle.meaning.specs.Faults.{payload_at, lowest_failing}
 use Rattle.theory.specs.Faults.{LowestWrong, none, here}
 

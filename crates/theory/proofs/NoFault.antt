@@ -13,11 +13,11 @@ use lib.Seq.{get_or-append-add, ext_get_or}
 use Rattle.meaning.specs.Trees.{Tree, nodes}
 use Rattle.meaning.specs.Strings.{Bit, ones, lbs, R1, R0}
 use Rattle.meaning.specs.Blocks.{word_bytes, padded, sealed, sum_start, same, blocks_in, wrong_block}
-use Rattle.meaning.specs.Image.{Content, Measured, FitImage, version_of, list_of, list_part, string_blocks, samples}
+use Rattle.meaning.specs.Image.{Content, FitImage, version_of, list_of, list_part, string_blocks, samples}
 use Rattle.meaning.specs.Image.{string_part, sample_part, header, payloads, image_of_parts, image, header_word, metres_in, is_image}
 use Rattle.meaning.specs.Faults.{is_header, are_strings, payload_at, whole, zero_after, lowest_failing, wrong_kept, wrong_sample}
 use Rattle.theory.specs.Layout.{total, start_s1, start_metres}
-use Rattle.theory.specs.Stages.{nodes_of, runs_of, version_in, r1_samples, metres_block, blocks_needed, read_r1, read_r0, Known, Ended, Stages}
+use Rattle.theory.specs.Stages.{nodes_of, runs_of, r1_samples, read_r1, read_r0, Known, Ended, Stages}
 use Rattle.theory.proofs.Forms.{length-R1, length-R0}
 use Rattle.theory.proofs.Sealing.{same_refl, length-padded, sealed-at, length-sealed, is_sealed}
 use Rattle.theory.proofs.Payloads.{length-samples}

@@ -109,7 +109,8 @@ module _ (start : ℕ → ℕ) where
       ∙ get_or-append (block (start b) (padded p)) (sealed start ps (suc b)) 0 r (omega (arith, sealed-length p b))
       ∙ get_or-append (padded p) (word_bytes (sums (words (padded p)) (start b) 0)) 0 r (omega (arith, length-padded p))
   sealed-at (p ∷ ps) b (suc j) r h g =
-      ap (λ k. get_or (block (start b) (padded p) ++ sealed start ps (suc b)) k 0) (let e : 512 * suc j + r ≡ length (block (start b) (padded p)) + (512 * j + r) = omega (arith, sealed-length p b) in e)
+      ap (λ k. get_or (block (start b) (padded p) ++ sealed start ps (suc b)) k 0)
+      (let e : 512 * suc j + r ≡ length (block (start b) (padded p)) + (512 * j + r) = omega (arith, sealed-length p b) in e)
       ∙ get_or-append-add (block (start b) (padded p)) (sealed start ps (suc b)) (512 * j + r) 0
       ∙ sealed-at ps (suc b) j r (omega arith) g
 

@@ -1,5 +1,6 @@
 -- What the tests of a call come to; the upper row wins, and a refused call leaves what is lent to
 -- it.
+use Rattle.std.specs.Prelude.{Ok, Err}
 use mathlib.Core.Path.{◌≡◌, refl, sym, ap, ◌∙◌}
 use mathlib.Core.Bool.{Bool, true, false, cond, not, ◌||◌}
 use mathlib.Core.List.{List, [], ◌∷◌, ◌++◌}
@@ -10,9 +11,7 @@ use borrow.Author.Tests.{lt-ltb, le-ltb, eq-eqb, ne_eqb}
 use lib.Dec.{ltb, eqb}
 use Rattle.meaning.specs.declared.Answer.{Answer}
 use Rattle.meaning.specs.declared.Refusal.{Refusal}
-use Rattle.meaning.specs.declared.Verdict.{Verdict}
-use Rattle.meaning.specs.declared.Verdict.TheVariants.{Passed, Refused}
-use Rattle.meaning.specs.Answers.{Row, Outcome, refused_with, came_to, alone, over, first_holding, unless_refused, settle}
+use Rattle.meaning.specs.Answers.{Verdict, Row, Outcome, refused_with, came_to, alone, over, first_holding, unless_refused, settle}
 use Rattle.meaning.specs.Tests.{outside}
 use Rattle.theory.specs.Rows.{NoneHolds, Wins}
 
@@ -48,25 +47,25 @@ equal x y e = ap not (eq-eqb x y e)
 abbrev pub refusal_of : Row → Refusal
 refusal_of r = record { code = r.code; place = r.place }
 
-pub clash : {X : Type 0} {r : Refusal} → Refused r ≡ Passed → X
+pub clash : {X : Type 0} {r : Refusal} → ◌≡◌ {A = Verdict} (Err r) (Ok tt) → X
 clash e = let z : ◌≡◌ {A = ℕ} 0 1 = cc in absurd (omega arith)
 
-pub first-none : first_holding [] ≡ Passed
+pub first-none : first_holding [] ≡ (Ok tt)
 unfolding first_holding
 first-none = refl
 
 module _ (r : Row) (rs : List Row) where
-  pub first-here : r.holds ≡ true → first_holding (r ∷ rs) ≡ Refused (refusal_of r)
+  pub first-here : r.holds ≡ true → first_holding (r ∷ rs) ≡ Err (refusal_of r)
   unfolding first_holding
-  first-here e = ap (λ b. over (cond b (Refused (refusal_of r)) Passed) (first_holding rs)) e
+  first-here e = ap (λ b. over (cond b (Err (refusal_of r)) (Ok tt)) (first_holding rs)) e
 
   pub first_on : r.holds ≡ false → first_holding (r ∷ rs) ≡ first_holding rs
   unfolding first_holding
-  first_on e = ap (λ b. over (cond b (Refused (refusal_of r)) Passed) (first_holding rs)) e
+  first_on e = ap (λ b. over (cond b (Err (refusal_of r)) (Ok tt)) (first_holding rs)) e
 
-over_passed : (v : Verdict) → over v Passed ≡ v
-over_passed Passed = refl
-over_passed (Refused r) = refl
+over_passed : (v : Verdict) → over v (Ok tt) ≡ v
+over_passed (Ok _) = refl
+over_passed (Err r) = refl
 
 pub first_alone : (r : Row) → first_holding (r ∷ []) ≡ alone r
 unfolding first_holding
@@ -82,7 +81,7 @@ first-append (r ∷ rs) rest = go r.holds refl (first-append rs rest)
     go true e later = first-here r (rs ++ rest) e ∙ sym (ap (λ v. over v (first_holding rest)) (first-here r rs e))
     go false e later = first_on r (rs ++ rest) e ∙ later ∙ sym (ap (λ v. over v (first_holding rest)) (first_on r rs e))
 
-pub none_first : (rs : List Row) → Passed ≡ first_holding rs → NoneHolds rs
+pub none_first : (rs : List Row) → (Ok tt) ≡ first_holding rs → NoneHolds rs
 none_first [] e = tt
 none_first (r ∷ rs) e = go r.holds refl (λ f. none_first rs (e ∙ first_on r rs f))
   where
@@ -109,14 +108,14 @@ module _ {A : Type 0} (before : A) (a : Answer) (after : A) where
     where
       go : (v : Verdict) → unless_refused before (over v (first_holding rest)) (came_to a after)
           ≡ unless_refused before v (unless_refused before (first_holding rest) (came_to a after))
-      go Passed = refl
-      go (Refused r) = refl
+      go (Ok _) = refl
+      go (Err r) = refl
 
-  pub settle-refused : (rest rows : List Row) {r : Refusal} → Refused r ≡ first_holding rows
+  pub settle-refused : (rest rows : List Row) {r : Refusal} → Err r ≡ first_holding rows
       → settle before (rows ++ rest) a after ≡ came_to (refused_with r.code r.place) before
   settle-refused rest rows e = settle-append rows rest ∙ sym (ap (λ v. unless_refused before v (settle before rest a after)) e)
 
-  pub settle_passed : (rest rows : List Row) → Passed ≡ first_holding rows → settle before (rows ++ rest) a after ≡ settle before rest a after
+  pub settle_passed : (rest rows : List Row) → (Ok tt) ≡ first_holding rows → settle before (rows ++ rest) a after ≡ settle before rest a after
   settle_passed rest rows e = settle-append rows rest ∙ sym (ap (λ v. unless_refused before v (settle before rest a after)) e)
 
   pub settle-here : (r : Row) (rs : List Row) → r.holds ≡ true → settle before (r ∷ rs) a after ≡ came_to (refused_with r.code r.place) before

@@ -18,7 +18,7 @@ use Rattle.meaning.specs.Blocks.{blocks_in, wrong_block}
 use Rattle.meaning.specs.Image.{Content, Measured, FitImage, version_of, list_of, string_blocks, samples, image_of_parts, image, header_word, string_in, numbers_in, parents_in, metres_in, is_image}
 use Rattle.theory.specs.Layout.{Runs, AreBytes, word_at, bit_place, sample_place, sample_in, list_word, sample_word, bit_word, string_word, start_r0, start_s1, start_s0, start_metres, total, Laid}
 use Rattle.theory.specs.Stages.{nodes_of, runs_of, version_in, held_in, word_blocks, blocks_of_samples, r0_block, r1_samples, metres_block, metres_held}
-use Rattle.theory.specs.Stages.{blocks_needed, read_r1, read_r0, Known, Header, Ended, InStep, CountsAndPadding, Sampled, MetresEnd, Stages}
+use Rattle.theory.specs.Stages.{blocks_needed, read_r1, read_r0, Known, Header, Ended, InStep, CountsAndPadding, Sampled, Stages}
 use Rattle.theory.proofs.Bits.{I≢O}
 use Rattle.theory.specs.Faults.{BlockKept, RestKept}
 use Rattle.theory.proofs.Digits.{same_bits_lem, bytes_of_lt, bytes_of-bit, bytes_of-word, length-bytes_of, take_bytes, drop_bytes, word_at-take, word_at-drop}
@@ -28,7 +28,7 @@ use Rattle.theory.proofs.InBlocks.{string_in-take}
 use Rattle.theory.proofs.Images.{measured-word, measured-held, version_small, laid}
 use Rattle.theory.proofs.InStep.{runs_ended, one_missing, in_step}
 use Rattle.theory.proofs.TreeImages.{header_at, length-string_in, string_in-at, length-numbers_in, numbers_in-at, R1-bit, R0-bit, R1_in}
-use Rattle.theory.proofs.TreeImages.{R0_in, metres_in_lem, words-measured, image_parts, measured-R1, parents_in_lem, is_image_lem, image_laid}
+use Rattle.theory.proofs.TreeImages.{R0_in, words-measured, image_parts, measured-R1, parents_in_lem, is_image_lem, image_laid}
 
 -- ---- every image passes
 

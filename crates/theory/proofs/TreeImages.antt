@@ -16,7 +16,7 @@ use Rattle.meaning.specs.Strings.{Bit, O, ones, lbs, R1, R0, parents_of, string_
 use Rattle.meaning.specs.Parents.{parents, IsParents, bad_entry}
 use Rattle.meaning.specs.Bytes.{bit, bit_at, bytes_of}
 use Rattle.meaning.specs.Blocks.{le32, sum_start, sealed, same, blocks_in, wrong_block}
-use Rattle.meaning.specs.Image.{Content, Measured, FitImage, version_of, list_of, word_blocks, string_blocks, metres_block, metres_held}
+use Rattle.meaning.specs.Image.{Content, Measured, FitImage, version_of, list_of, string_blocks, metres_block}
 use Rattle.meaning.specs.Image.{image_of_parts, image_of_string, image, header_word, string_in, numbers_in, parents_in, metres_in, is_tree, is_image}
 use Rattle.theory.specs.Layout.{Runs, AreBytes, word_at, sample_place, sample_in, start_r0, start_metres, total, Laid}
 pub use Rattle.theory.specs.Layout.{bit_place}

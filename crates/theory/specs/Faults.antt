@@ -1,6 +1,6 @@
 -- The lowest wrong block of some, and what the blocks after the header are looked at for (document
 -- 02, item 1).
-use Rattle.std.specs.Prelude.{◌≡◌, List, ℕ, ◌+◌, ◌*◌, ◌/◌, ◌≤◌, ◌<◌}
+use Rattle.std.specs.Prelude.{◌≡◌, List, ℕ, ◌+◌, ◌*◌, ◌≤◌, ◌<◌}
 use Rattle.meaning.specs.Strings.{Bit, O, ones}
 use Rattle.meaning.specs.Bytes.{bit_at}
 use Rattle.meaning.specs.Image.{string_in}

@@ -8,3 +8,4 @@ pub mod Layout
 pub mod Faults
 pub mod Stages
 pub mod Tables
+pub mod Places

@@ -19,9 +19,7 @@ pub fn write_byte_positions(x: u8, n: usize, i: usize, k: usize, out: &mut [u32]
     ensures { Placed (bits_from (x ∷ []) 0 n) i k out.old out.new result }
 {
     let mut low = k;
-    let mut bit = n;
-    while 0 < bit {
-        bit -= 1;
+    for bit in (0..n).rev() {
         out[low - 1] = (i + bit + 1) as u32;
         low -= bit_of(x, bit);
     }

@@ -6,7 +6,7 @@ ghost use Rattle.meaning.specs.Answers.{written};
 ghost use Rattle.meaning.specs.Image.{word_blocks, numbers_in};
 ghost use Rattle.theory.specs.Bounds.{most_block};
 
-use image_layout::{PAYLOAD_WORDS, in_block};
+use image_layout::{PAYLOAD_WORDS, in_block, list_blocks};
 use image_words::word;
 
 // The n numbers whose blocks begin at block `block`.
@@ -17,16 +17,11 @@ pub fn write_metres(b: &[u8], block: usize, n: usize, out: &mut [u32])
     requires n_in_bounds_2 { n ≤ length out.old }
     ensures { out.new ≡ written (numbers_in b.now block 0 n) out.old }
 {
-    let mut j: usize = 0;
-    while PAYLOAD_WORDS * j < n {
+    for j in 0..list_blocks(n) {
         let at = 512 * (block + j);
         let first = PAYLOAD_WORDS * j;
-        let words = in_block(n - first);
-        let mut w: usize = 0;
-        while w < words {
+        for w in 0..in_block(n - first) {
             out[first + w] = word(b, at + 4 * w);
-            w += 1;
         }
-        j += 1;
     }
 }

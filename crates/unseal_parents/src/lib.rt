@@ -22,11 +22,9 @@ fn spread_byte(x: u8, n: usize, i: usize, p: usize, out: &mut [u32]) -> usize
     ensures { SpreadOut (bits_from (x ∷ []) 0 n) i p out.old out.new result }
 {
     let mut from = p;
-    let mut bit: usize = 0;
-    while bit < n {
+    for bit in 0..n {
         out[i + bit] = out[from];
         from += bit_of(x, bit);
-        bit += 1;
     }
     from
 }
@@ -40,13 +38,12 @@ fn spread_block(b: &[u8], at: usize, n: usize, i: usize, p: usize, out: &mut [u3
     requires n_in_bounds { p + ones (bits_from b.now (8 * at) n) < length out.old }
     ensures { SpreadOut (bits_from b.now (8 * at) n) i p out.old out.new result }
 {
+    let bytes = n / 8;
     let mut from = p;
-    let mut w: usize = 0;
-    while w < n / 8 {
+    for w in 0..bytes {
         from = spread_byte(b[at + w], 8, i + 8 * w, from, out);
-        w += 1;
     }
-    spread_byte(b[at + w], n % 8, i + 8 * w, from, out)
+    spread_byte(b[at + bytes], n % 8, i + 8 * bytes, from, out)
 }
 
 // For each of the first n bits of R1, which has one bit more, from entry 0 on, writes the number at
@@ -58,13 +55,12 @@ fn spread_string(b: &[u8], n: usize, p: usize, out: &mut [u32])
     requires n_in_bounds_2 { p + ones (string_in b.now 1 0 n) < length out.old }
     ensures { out.new ≡ spread (string_in b.now 1 0 n) (drop p out.old) ++ drop n out.old }
 {
+    let blocks = n / 4000;
     let mut from = p;
-    let mut j: usize = 0;
-    while j < n / 4000 {
+    for j in 0..blocks {
         from = spread_block(b, bits_at(1 + j), 4000, 4000 * j, from, out);
-        j += 1;
     }
-    spread_block(b, bits_at(1 + j), n % 4000, 4000 * j, from, out);
+    spread_block(b, bits_at(1 + blocks), n % 4000, 4000 * blocks, from, out);
 }
 
 // Writes the parents that R1 and R0 give: the nodes with children, which the ones of R0 before its

@@ -28,10 +28,9 @@ fn write_block_positions(
     requires k_in_bounds { k ≤ length out.old }
     ensures { Placed (bits_from b.now (8 * at) n) i k out.old out.new result }
 {
-    let mut w = n / 8;
-    let mut low = write_byte_positions(b[at + w], n % 8, i + 8 * w, k, out);
-    while 0 < w {
-        w -= 1;
+    let bytes = n / 8;
+    let mut low = write_byte_positions(b[at + bytes], n % 8, i + 8 * bytes, k, out);
+    for w in (0..bytes).rev() {
         let x = b[at + w];
         // the leaves at the end of a tree are many bytes of zeros
         if x != 0 {
@@ -52,10 +51,10 @@ pub fn write_string_positions(b: &[u8], bits_block: usize, n: usize, out: &mut [
     requires n_in_bounds_2 { n ≤ length out.old }
     ensures { Placed (string_in b.now bits_block 0 n) 0 n out.old out.new result }
 {
-    let mut j = n / 4000;
-    let mut low = write_block_positions(b, bits_at(bits_block + j), n % 4000, 4000 * j, n, out);
-    while 0 < j {
-        j -= 1;
+    let blocks = n / 4000;
+    let last = bits_at(bits_block + blocks);
+    let mut low = write_block_positions(b, last, n % 4000, 4000 * blocks, n, out);
+    for j in (0..blocks).rev() {
         low = write_block_positions(b, bits_at(bits_block + j), 4000, 4000 * j, low, out);
     }
     low

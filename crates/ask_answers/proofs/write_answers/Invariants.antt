@@ -1,10 +1,6 @@
-use Prim.Native.Nat.{◌-◌}
 use Rattle.meaning.specs.Image.{list_of, metres_in, parents_in, present}
 use Rattle.ask_answers.proofs.Answers.{Answered}
 use Rattle.ask_answers.proofs.write_answers.Given as goal
 
 abbrev pub invariant-loop-k : goal.invariant-loop-k
 invariant-loop-k l = Answered (parents_in l.b) (list_of (metres_in l.b)) l.image.nodes (present (metres_in l.b)) l.asked l.initial.answers l.answers l.k
-
-abbrev pub decreases-loop-k : goal.decreases-loop-k
-decreases-loop-k l = l.count - l.k

@@ -2,13 +2,10 @@ use mathlib.Core.Path.{◌≡◌, ap₂, ◌∙◌}
 use mathlib.Core.List.{[], ◌∷◌}
 use Prim.Native.Nat.{◌-◌, ◌/◌, ◌%◌, ◌^◌}
 use native.Mathlib.Omega.{arith}
-use lib.Bits.{bit_and, and_le_r}
+use lib.Bits.{bit_and}
 use lib.ListN.{get_or}
 use Rattle.bits_byte.proofs.Values.{digit_value}
 use Rattle.bits_byte.proofs.bit_of.Goals as goal
-
-pub overflow_cast-result-2 : goal.overflow_cast-result-2
-overflow_cast-result-2 c = omega (arith, and_le_r (c.args.x / 2 ^ (7 - c.args.j)) 1)
 
 pub returns : goal.returns
 returns c =

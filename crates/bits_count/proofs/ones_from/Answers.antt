@@ -9,43 +9,20 @@ use Rattle.bits_count.proofs.Runs.{no_bits, bits-ones-le, front-ones-le, eight_m
 use Rattle.bits_count.proofs.ones_from.Goals as goal
 
 pub loop-i-init : goal.loop-i-init
-loop-i-init c = (omega arith, no_bits c.args.b.now (8 * c.args.at))
-
-pub overflow_add-i : goal.overflow_add-i
-overflow_add-i c = omega arith
-
-pub overflow_add-at : goal.overflow_add-at
-overflow_add-at c = omega arith
-
-pub ones_in_word-count-requires : goal.ones_in_word-count-requires
-ones_in_word-count-requires c = omega arith
+loop-i-init c = no_bits c.args.b.now (8 * c.args.at)
 
 pub overflow_add-count : goal.overflow_add-count
 overflow_add-count c =
     let a = c.args in
     let l = c.loop-i in
-    omega (arith, bits-ones-le a.b.now (8 * a.at) (8 * l.i), bits-ones-le a.b.now (8 * (a.at + l.i)) 64)
-
-pub overflow_add-i-in-loop-i : goal.overflow_add-i-in-loop-i
-overflow_add-i-in-loop-i c = omega arith
-
-pub loop-i-smaller : goal.loop-i-smaller
-loop-i-smaller c = omega arith
+    omega (arith, bits-ones-le a.b.now (8 * a.at) (8 * (8 * l.i)), bits-ones-le a.b.now (8 * (a.at + 8 * l.i)) 64)
 
 pub loop-i-preserved : goal.loop-i-preserved
 loop-i-preserved c =
     let l = c.loop-i in
     let a = c.args in
-    (omega arith, ap₂ ◌+◌ l.invariant.1 c.ones_in_word-count.ensures ∙ eight_more a.b.now a.at l.i)
-
-pub loop-i-2-init : goal.loop-i-2-init
-loop-i-2-init c = (c.loop-i.invariant.0, c.loop-i.invariant.1)
-
-pub overflow_add-at-in-loop-i-2 : goal.overflow_add-at-in-loop-i-2
-overflow_add-at-in-loop-i-2 c = omega arith
-
-pub bounds-b-at : goal.bounds-b-at
-bounds-b-at c = omega arith
+    ap₂ ◌+◌ l.invariant c.ones_in_word-count.ensures ∙ eight_more a.b.now a.at (8 * l.i)
+    ∙ ap (λ k. ones (bits_from a.b.now (8 * a.at) (8 * k))) (let e : 8 * l.i + 8 ≡ 8 * (l.i + 1) = omega arith in e)
 
 pub overflow_add-count-in-loop-i-2 : goal.overflow_add-count-in-loop-i-2
 overflow_add-count-in-loop-i-2 c =
@@ -53,33 +30,11 @@ overflow_add-count-in-loop-i-2 c =
     let l = c.loop-i-2 in
     omega (arith, bits-ones-le a.b.now (8 * a.at) (8 * l.i), bits-ones-le (get_or a.b.now (a.at + l.i) 0 ∷ []) 0 8)
 
-pub overflow_add-i-in-loop-i-2 : goal.overflow_add-i-in-loop-i-2
-overflow_add-i-in-loop-i-2 c = omega arith
-
-pub loop-i-2-smaller : goal.loop-i-2-smaller
-loop-i-2-smaller c = omega arith
-
 pub loop-i-2-preserved : goal.loop-i-2-preserved
 loop-i-2-preserved c =
     let l = c.loop-i-2 in
     let a = c.args in
     (omega arith, ap₂ ◌+◌ l.invariant.1 c.ones_in_byte-count.ensures ∙ one_more a.b.now a.at l.i)
-
-pub returns-then-n-eq0 : goal.returns-then-n-eq0
-returns-then-n-eq0 c =
-    let a = c.args in
-    let l = c.loop-i-2 in
-    let n = a.n in
-    l.invariant.1 ∙ ap (λ k. ones (bits_from a.b.now (8 * a.at) k)) (let e : 8 * l.i ≡ n = omega arith in e)
-
-pub overflow_add-at-2 : goal.overflow_add-at-2
-overflow_add-at-2 c = omega arith
-
-pub bounds-b-at-2 : goal.bounds-b-at-2
-bounds-b-at-2 c = omega arith
-
-pub ones_in_front-requires : goal.ones_in_front-requires
-ones_in_front-requires c = omega arith
 
 pub overflow_add-result : goal.overflow_add-result
 overflow_add-result c =

@@ -1,9 +1,5 @@
-use lib.Bits.{and_le_l}
 use Rattle.bits_count.proofs.Words.{without-ones}
 use Rattle.bits_count.proofs.ones_without.Goals as goal
-
-pub overflow_sub-result : goal.overflow_sub-result
-overflow_sub-result c = and_le_l c.stored_word-x.result c.stored_word.result
 
 pub returns : goal.returns
 returns c =

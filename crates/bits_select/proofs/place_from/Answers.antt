@@ -5,7 +5,7 @@ use lib.ListN.{length}
 use Rattle.meaning.specs.Bytes.{bits_from}
 use Rattle.theory.proofs.Packing.{bits-length, bits-cut}
 use Rattle.bits_count.proofs.Runs.{bits-ones-le}
-use Rattle.bits_select.proofs.Reaching.{place-le, Reached, reached_first, reached_past, reached_place}
+use Rattle.bits_select.proofs.Reaching.{place-le, Reached, reached_past, reached_place}
 use Rattle.bits_select.proofs.place_from.Goals as goal
 use Rattle.bits_select.proofs.place_from.Goals.{In-loop-here}
 
@@ -25,15 +25,6 @@ pub ones_in_word-here-requires : goal.ones_in_word-here-requires
 ones_in_word-here-requires c =
     let a = c.args in
     omega (arith, bits-ones-le a.b.now (8 * a.at) (8 * (length a.b.now - 7 - a.at)))
-
-pub loop-here-init : goal.loop-here-init
-loop-here-init c =
-    let a = c.args in
-    let p = c.requires in
-    (reached_first a.b.now a.at (length a.b.now - 7 - a.at) a.k p.le_k p.k_bound, c.ones_in_word-here.ensures)
-
-pub overflow_sub-need : goal.overflow_sub-need
-overflow_sub-need c = omega arith
 
 pub overflow_add-i : goal.overflow_add-i
 overflow_add-i c = let r = next (goal.at.overflow_add-i c).In-loop-here in omega (arith, r.end)
@@ -56,12 +47,6 @@ loop-here-smaller c =
 
 pub loop-here-preserved : goal.loop-here-preserved
 loop-here-preserved c = (next (goal.at.loop-here-preserved c).In-loop-here, c.ones_in_word-here-in-loop-here.ensures)
-
-pub overflow_sub-result : goal.overflow_sub-result
-overflow_sub-result c = let r = c.loop-here.invariant.0 in omega (arith, r.start)
-
-pub overflow_mul-result : goal.overflow_mul-result
-overflow_mul-result c = let r = c.loop-here.invariant.0 in omega (arith, r.end)
 
 pub place_in_word-requires : goal.place_in_word-requires
 place_in_word-requires c =

@@ -78,36 +78,14 @@ overflow_mul-enough c = omega (arith, few (goal.at.overflow_mul-enough c).Start)
 pub overflow_sub-enough : goal.overflow_sub-enough
 overflow_sub-enough c = omega (arith, few (goal.at.overflow_sub-enough c).Start)
 
-pub overflow_mul-need : goal.overflow_mul-need
-overflow_mul-need c = omega (arith, (it-is (goal.at.overflow_mul-need c).After-count_lanes-ones).within)
-
-pub overflow_cast-need : goal.overflow_cast-need
-overflow_cast-need c = omega (arith, (it-is (goal.at.overflow_cast-need c).After-count_lanes-ones).within)
-
 pub overflow_shr-need : goal.overflow_shr-need
 overflow_shr-need c = omega (arith, (it-is (goal.at.overflow_shr-need c).After-count_lanes-ones).within)
-
-pub overflow_cast-need-2 : goal.overflow_cast-need-2
-overflow_cast-need-2 c = let f = it-is (goal.at.overflow_cast-need-2 c).After-count_lanes-ones in omega
-    (arith, passed (goal.at.overflow_cast-need-2 c).After-count_lanes-ones, f.short, few (goal.at.overflow_cast-need-2 c).Start)
 
 pub overflow_sub-need : goal.overflow_sub-need
 overflow_sub-need c = let f = it-is (goal.at.overflow_sub-need c).After-count_lanes-ones in omega (arith, passed (goal.at.overflow_sub-need c).After-count_lanes-ones, f.short)
 
-pub overflow_mul-x : goal.overflow_mul-x
-overflow_mul-x c = omega (arith, (it-is (goal.at.overflow_mul-x c).After-count_lanes-ones).within)
-
-pub overflow_cast-x : goal.overflow_cast-x
-overflow_cast-x c = omega (arith, (it-is (goal.at.overflow_cast-x c).After-count_lanes-ones).within)
-
 pub overflow_shr-x : goal.overflow_shr-x
 overflow_shr-x c = omega (arith, (it-is (goal.at.overflow_shr-x c).After-count_lanes-ones).within)
-
-pub overflow_cast-x-2 : goal.overflow_cast-x-2
-overflow_cast-x-2 c = omega (arith, its-byte (goal.at.overflow_cast-x-2 c).After-count_lanes-ones)
-
-pub overflow_mul-result : goal.overflow_mul-result
-overflow_mul-result c = omega (arith, (it-is (goal.at.overflow_mul-result c).After-count_lanes-ones).within)
 
 pub select_in_byte-requires : goal.select_in_byte-requires
 select_in_byte-requires c =

@@ -3,7 +3,6 @@ use Prim.Native.Nat.{ℕ, ◌+◌, ◌/◌, ◌≤◌, ◌<◌}
 use native.Mathlib.Nat.{add-zero}
 use native.Mathlib.Omega.{arith}
 use lib.Bits.{and_le_l}
-use lib.Count.{leading_le}
 use Rattle.meaning.specs.Strings.{ones}
 use Rattle.theory.specs.Rank.{position}
 use Rattle.bits_byte.specs.Byte.{byte_bits}
@@ -100,20 +99,8 @@ last c =
       })
     ]
 
-pub overflow_sub-need : goal.overflow_sub-need
-overflow_sub-need c = omega arith
-
-pub overflow_sub-need-then-two-need : goal.overflow_sub-need-then-two-need
-overflow_sub-need-then-two-need c = omega arith
-
 pub without_first-less-requires : goal.without_first-less-requires
 without_first-less-requires c = let n = near (goal.at.without_first-less-requires c).Joined-two-need in omega (arith, n.0.some, n.0.enough)
-
-pub overflow_add-result : goal.overflow_add-result
-overflow_add-result c = omega (arith, (last (goal.at.overflow_add-result c).Joined-need-gt1).few, leading_le 8 c.if-need-gt1.rest)
-
-pub overflow_add-result-2 : goal.overflow_add-result-2
-overflow_add-result-2 c = omega (arith, (last (goal.at.overflow_add-result-2 c).Joined-need-gt1).few, leading_le 8 c.if-need-gt1.rest)
 
 pub returns : goal.returns
 returns c =

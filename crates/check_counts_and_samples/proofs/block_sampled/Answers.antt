@@ -11,26 +11,18 @@ use Rattle.image_string.proofs.Ones.{ones_to-le, ones_to-block}
 use Rattle.check_counts_and_samples.proofs.Sampling.{piece_bits, sampled-block, block-sampled}
 use Rattle.check_counts_and_samples.proofs.block_sampled.Goals as goal
 
-pub word-requires : goal.word-requires
-word-requires c = omega arith
+pub piece_sampled-requires-clause-k_bound : goal.piece_sampled-requires-clause-k_bound
+piece_sampled-requires-clause-k_bound c = omega (arith, ones_to-le c.args.b.now c.args.bits_block (4000 * c.args.j))
 
-pub piece_sampled-requires : goal.piece_sampled-requires
-piece_sampled-requires c =
+pub piece_sampled-requires-clause-end_value : goal.piece_sampled-requires-clause-end_value
+piece_sampled-requires-clause-end_value c =
     let a = c.args in
     let b = a.b.now in
-    let most = ones_to-le b a.bits_block (4000 * a.j) in
-    let whole = ones_to-block b a.bits_block a.j a.n (omega arith) in
-    let same = ap (λ m. ones (bits_from b (8 * (512 * (a.bits_block + a.j) + 4)) m)) (piece_bits a.j a.n) in
-    record {
-      at_bound = omega arith;
-      piece_bound = omega arith;
-      first_bound = omega arith;
-      k_bound = omega arith;
-      samples_le_most_block = omega arith;
-      end_value = omega arith;
-      at_in_bounds = omega arith;
-      end_in_bounds = omega arith;
-    }
+    omega (
+      arith,
+      ones_to-block b a.bits_block a.j a.n (omega arith),
+      ap (λ m. ones (bits_from b (8 * (512 * (a.bits_block + a.j) + 4)) m)) (piece_bits a.j a.n),
+    )
 
 pub returns : goal.returns
 returns c =

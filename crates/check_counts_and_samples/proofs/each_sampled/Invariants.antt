@@ -1,5 +1,5 @@
 use mathlib.Core.Path.{◌≡◌}
-use Prim.Native.Nat.{ℕ, ◌+◌, ◌-◌, ◌*◌, ◌≤◌, ◌<◌}
+use Prim.Native.Nat.{ℕ, ◌+◌, ◌≤◌, ◌<◌}
 use Rattle.theory.specs.Layout.{sample_place}
 use Rattle.check_sample.specs.Words.{bits_in}
 use Rattle.check_counts_and_samples.proofs.Numbering.{NumberSampled}
@@ -7,8 +7,4 @@ use Rattle.check_counts_and_samples.proofs.each_sampled.Given as goal
 
 abbrev pub invariant-loop-s : goal.invariant-loop-s
 invariant-loop-s l =
-    (l.k ≤ 64 * l.s) × (64 * l.s < l.end + 64) × (l.p ≡ sample_place l.samples l.s) × (l.end ≤ l.k + 4000) ×
-    ((q : ℕ) → q < l.s → NumberSampled l.b l.samples l.piece.at (bits_in l.piece) l.piece.first l.k q)
-
-abbrev pub decreases-loop-s : goal.decreases-loop-s
-decreases-loop-s l = l.end - 64 * l.s
+    (l.p ≡ sample_place l.samples l.s) × (l.end ≤ l.k + 4000) × ((q : ℕ) → q < l.s → NumberSampled l.b l.samples l.piece.at (bits_in l.piece) l.piece.first l.k q)

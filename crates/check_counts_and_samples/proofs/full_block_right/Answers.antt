@@ -11,22 +11,8 @@ use Rattle.image_string.proofs.Ones.{ones_to-le, ones_to-block}
 use Rattle.check_counts_and_samples.proofs.Sampling.{piece_bits, sampled-block, block-sampled}
 use Rattle.check_counts_and_samples.proofs.full_block_right.Goals as goal
 
-pub word-requires : goal.word-requires
-word-requires c = omega arith
-
-pub full_piece_right-requires : goal.full_piece_right-requires
-full_piece_right-requires c =
-    let a = c.args in
-    let most = ones_to-le a.b.now a.bits_block (4000 * a.j) in
-    record {
-      at_bound = omega arith;
-      piece_value = omega arith;
-      first_bound = omega arith;
-      k_bound = omega arith;
-      samples_le_most_block = omega arith;
-      at_in_bounds = omega arith;
-      end_in_bounds = omega arith;
-    }
+pub full_piece_right-requires-clause-k_bound : goal.full_piece_right-requires-clause-k_bound
+full_piece_right-requires-clause-k_bound c = omega (arith, ones_to-le c.args.b.now c.args.bits_block (4000 * c.args.j))
 
 pub returns : goal.returns
 returns c =

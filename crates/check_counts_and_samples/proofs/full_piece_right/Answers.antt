@@ -13,11 +13,8 @@ use Rattle.image_string.proofs.Saying.{decides_same}
 use Rattle.check_counts_and_samples.proofs.full_piece_right.Goals as goal
 use Rattle.check_counts_and_samples.proofs.full_piece_right.Goals.{After-add_up, After-ones_from}
 
-pub add_up-requires : goal.add_up-requires
-add_up-requires c =
-    let a = c.args in
-    let made = c.count_words in
-    record { table_len = made.ensures.table_len_2; by_index = counts-few a.b.now a.piece.at made.new.table made.ensures.word_counts }
+pub add_up-requires-clause-by_index : goal.add_up-requires-clause-by_index
+add_up-requires-clause-by_index c = counts-few c.args.b.now c.args.piece.at c.count_words.new.table c.count_words.ensures.word_counts
 
 counts : (c : goal.After-add_up) → CountsBefore c.args.b.now c.args.piece.at c.add_up.new.table
 counts c =
@@ -53,20 +50,11 @@ overflow_add-k-2 c =
 pub returns-then-k-table : goal.returns-then-k-table
 returns-then-k-table c = λ p. c.if-k-table.true (omega (arith, whole (goal.at.returns-then-k-table c).After-ones_from, p.0))
 
-pub each_sampled-requires : goal.each_sampled-requires
-each_sampled-requires c =
-    let e = whole (goal.at.each_sampled-requires c).After-ones_from in
-    record {
-      at_bound = omega arith;
-      piece_bound = omega arith;
-      first_bound = omega arith;
-      k_bound = omega arith;
-      samples_le_most_block = omega arith;
-      end_value = omega (arith, c.if-k-table.false);
-      at_in_bounds = omega arith;
-      end_in_bounds = omega arith;
-      counts_before = counts (goal.at.each_sampled-requires c).After-add_up;
-    }
+pub each_sampled-requires-clause-end_value : goal.each_sampled-requires-clause-end_value
+each_sampled-requires-clause-end_value c = omega (arith, whole (goal.at.each_sampled-requires-clause-end_value c).After-ones_from, c.if-k-table.false)
+
+pub each_sampled-requires-clause-counts_before : goal.each_sampled-requires-clause-counts_before
+each_sampled-requires-clause-counts_before c = counts (goal.at.each_sampled-requires-clause-counts_before c).After-add_up
 
 pub returns : goal.returns
 returns c =

@@ -1,9 +1,7 @@
-use mathlib.Core.Path.{◌≡◌, ap, ◌∙◌}
 use Prim.Native.Nat.{◌+◌, ◌-◌, ◌*◌}
 use native.Mathlib.Omega.{arith}
 use Rattle.meaning.specs.Image.{string_in}
 use Rattle.theory.specs.Stages.{Sampled}
-use Rattle.image_string.specs.Parts.{ones_to}
 use Rattle.check_sample.specs.Words.{RestZero}
 use Rattle.check_counts_and_samples.specs.Samples.{SampledAt, SampledWithin}
 use Rattle.image_string.proofs.Ones.{ones_to-le}
@@ -11,22 +9,6 @@ use Rattle.image_string.proofs.Saying.{decides_held, decides_missed, decides_sam
 use Rattle.image_string.proofs.Within.{within_join}
 use Rattle.check_counts_and_samples.proofs.Sampling.{sampled, sampled-within, sampled-rest}
 use Rattle.check_counts_and_samples.proofs.samples_right.Goals as goal
-
-pub block_sampled-requires : goal.block_sampled-requires
-block_sampled-requires c =
-    let a = c.args in
-    let j = c.last_block-last.result in
-    let end = c.requires.m_value ∙ ap (ones_to a.b.now a.bits_block) (let e : a.n ≡ 4000 * j + (a.n - 4000 * j) = omega arith in e) in
-    record {
-      n_bound = omega arith;
-      j_bound = omega arith;
-      bits_block_le_most_block = omega arith;
-      samples_le_most_block = omega arith;
-      end_value = end;
-      j_in_bounds = omega arith;
-      end_in_bounds = omega arith;
-      j_value = c.requires.blocks_right.counted j (omega arith);
-    }
 
 pub returns-then-not-block_sampled : goal.returns-then-not-block_sampled
 returns-then-not-block_sampled c =
@@ -37,10 +19,8 @@ returns-then-not-block_sampled c =
     decides_missed c.block_sampled.result (SampledWithin b a.samples a.bits_block (4000 * j) (4000 * j + (a.n - 4000 * j))) c.block_sampled.ensures c.if-not-block_sampled.true
     (λ p h g. sampled-within b a.samples a.bits_block a.n a.m c.requires.m_value all p (omega arith) (omega arith))
 
-pub words_zero-requires : goal.words_zero-requires
-words_zero-requires c =
-    let a = c.args in
-    record { m_bound = omega (arith, ones_to-le a.b.now a.bits_block a.n); samples_le_most_block = omega arith; m_in_bounds = omega arith }
+pub words_zero-requires-clause-m_bound : goal.words_zero-requires-clause-m_bound
+words_zero-requires-clause-m_bound c = omega (arith, ones_to-le c.args.b.now c.args.bits_block c.args.n)
 
 pub returns : goal.returns
 returns c =

@@ -1,23 +1,12 @@
 use mathlib.Core.Path.{subst}
 use Prim.Native.Nat.{◌+◌, ◌*◌}
 use native.Mathlib.Omega.{arith}
-use Rattle.theory.proofs.InBlocks.{string-ones-le}
 use Rattle.image_string.specs.Decides.{Decides}
 use Rattle.image_string.proofs.Saying.{decides_same}
 use Rattle.check_runs_words.specs.Steps.{StepAt}
 use Rattle.check_runs.specs.Steps.{StepWithin}
 use Rattle.check_runs.proofs.Stepping.{step_block, block-step}
 use Rattle.check_runs.proofs.block_in_step.Goals as goal
-
-pub words_in_step-requires : goal.words_in_step-requires
-words_in_step-requires c =
-    let a = c.args in
-    let b = a.b.now in
-    let at1 = c.bits_at.ensures in
-    let at0 = c.bits_at-2.ensures in
-    let few1 = string-ones-le b 1 (4000 * a.j) in
-    let few0 = string-ones-le b a.zeros (4000 * a.j) in
-    record { b_len_bound = omega arith; n_bound = omega arith; n_in_bounds = omega arith; n_in_bounds_2 = omega arith; n_bound_2 = omega arith; n_bound_3 = omega arith }
 
 pub returns : goal.returns
 returns c =

@@ -1,5 +1,5 @@
 use mathlib.Core.Path.{◌≡◌}
-use Prim.Native.Nat.{◌+◌, ◌-◌, ◌*◌, ◌≤◌}
+use Prim.Native.Nat.{◌+◌, ◌*◌}
 use Rattle.meaning.specs.Strings.{ones}
 use Rattle.meaning.specs.Bytes.{bits_from}
 use Rattle.check_runs_words.specs.Steps.{StepAt}
@@ -7,7 +7,4 @@ use Rattle.check_runs_words.proofs.bits_in_step.Given as goal
 
 abbrev pub invariant-loop-i : goal.invariant-loop-i
 invariant-loop-i l =
-    (l.i ≤ l.n) × (l.before1 ≡ l.ones1 + ones (bits_from l.b (8 * l.at1) l.i)) × (l.before0 ≡ l.ones0 + ones (bits_from l.b (8 * l.at0) l.i)) × StepAt l.b l.at1 l.at0 l.i l.ones1 l.ones0
-
-abbrev pub decreases-loop-i : goal.decreases-loop-i
-decreases-loop-i l = l.n - l.i
+    (l.before1 ≡ l.ones1 + ones (bits_from l.b (8 * l.at1) l.i)) × (l.before0 ≡ l.ones0 + ones (bits_from l.b (8 * l.at0) l.i)) × StepAt l.b l.at1 l.at0 l.i l.ones1 l.ones0

@@ -55,12 +55,6 @@ before c =
       ending_le a.b.now (8 * (a.piece.at + 8 * (o / 64))) (o % 64) c.ones_ending-upto.result (omega arith) c.ones_ending-upto.ensures,
     )
 
-pub overflow_cast-result : goal.overflow_cast-result
-overflow_cast-result c = omega (arith, before (goal.at.overflow_cast-result c).After-result-1)
-
-pub overflow_add-result : goal.overflow_add-result
-overflow_add-result c = omega (arith, before (goal.at.overflow_add-result c).After-result-1)
-
 pub returns : goal.returns
 returns c =
     let a = c.args in

@@ -1,97 +1,69 @@
 use mathlib.Core.Path.{subst}
 use native.Mathlib.Omega.{arith}
+use Rattle.std.proofs.Common.{ℕ, List, get_or, Fits, w8}
 use Rattle.theory.specs.Layout.{AreBytes}
 use Rattle.theory.specs.Stages.{samples_of, word_blocks, blocks_of_samples}
-use Rattle.theory.specs.Faults.{LowestWrong, RestKept}
+use Rattle.theory.specs.Faults.{RestKept}
+use Rattle.fault_strings.specs.Lowest.{LowestBlock}
 use Rattle.fault_counts.proofs.Kept.{named-R1, named-R0, named_S1, named_S0, named-metres}
 use Rattle.fault_counts.proofs.wrong_counts.Goals as goal
-use Rattle.fault_counts.proofs.wrong_counts.Goals.{After-shared_slice_known-1, After-wrong_after_list-after_r0, After-wrong_after_list-after_r1}
+use Rattle.fault_counts.proofs.wrong_counts.Goals.{After-wrong_after_list, After-wrong_after_list-2}
 
-are : (c : goal.After-shared_slice_known-1) → AreBytes c.args.b.now
-are c k h = omega (arith, c.type_inv.b k)
+are : (bytes : List ℕ) → ((i : ℕ) → Fits w8 (get_or bytes i 0)) → AreBytes bytes
+are bytes fits i h = omega (arith, fits i)
 
 -- what was found after the samples of each string
-after-r1 : (c : goal.After-wrong_after_list-after_r1)
+after-r1 : (c : goal.After-wrong_after_list)
     → let a = c.args in
-    LowestWrong (RestKept a.b.now a.layout.r1_samples (samples_of a.layout.runs)) a.layout.r1_samples (blocks_of_samples a.layout.runs) c.wrong_after_list-after_r1.result
+    LowestBlock (RestKept a.b.now a.layout.r1_samples (samples_of a.layout.runs)) a.layout.r1_samples (blocks_of_samples a.layout.runs) c.wrong_after_list.result
 after-r1 c =
     let a = c.args in
-    subst (λ k. LowestWrong (RestKept a.b.now a.layout.r1_samples k) a.layout.r1_samples (word_blocks k) c.wrong_after_list-after_r1.result)
-    c.samples_of-samples.ensures c.wrong_after_list-after_r1.ensures
+    subst (λ k. LowestBlock (RestKept a.b.now a.layout.r1_samples k) a.layout.r1_samples (word_blocks k) c.wrong_after_list.result)
+    c.samples_of-samples.ensures c.wrong_after_list.ensures
 
-after-r0 : (c : goal.After-wrong_after_list-after_r0)
+after-r0 : (c : goal.After-wrong_after_list-2)
     → let a = c.args in
-    LowestWrong (RestKept a.b.now a.layout.r0_samples (samples_of a.layout.runs)) a.layout.r0_samples (blocks_of_samples a.layout.runs) c.wrong_after_list-after_r0.result
+    LowestBlock (RestKept a.b.now a.layout.r0_samples (samples_of a.layout.runs)) a.layout.r0_samples (blocks_of_samples a.layout.runs) c.wrong_after_list-2.result
 after-r0 c =
     let a = c.args in
-    subst (λ k. LowestWrong (RestKept a.b.now a.layout.r0_samples k) a.layout.r0_samples (word_blocks k) c.wrong_after_list-after_r0.result)
-    c.samples_of-samples.ensures c.wrong_after_list-after_r0.ensures
+    subst (λ k. LowestBlock (RestKept a.b.now a.layout.r0_samples k) a.layout.r0_samples (word_blocks k) c.wrong_after_list-2.result)
+    c.samples_of-samples.ensures c.wrong_after_list-2.ensures
 
-pub wrong_in_string-in_r1-requires : goal.wrong_in_string-in_r1-requires
-wrong_in_string-in_r1-requires c =
-    let p = c.requires in
-    record {
-      le_n = omega (arith, p.laid_out);
-      n_bound = omega (arith, p.laid_out);
-      le_bits_block = omega arith;
-      bits_block_le_most_block = omega arith;
-      n_in_bounds = omega (arith, p.laid_out);
-      lowest_wrong = p.lowest_wrong;
-    }
+pub returns-in-Some : goal.returns-in-Some
+returns-in-Some c =
+    let r1 = c.wrong_in_string in
+    named-R1 c.args.b.now c.args.layout (are c.args.b.now c.type_inv.b) c.requires.laid_out c.requires.layout_value
+    c.requires.ended c.requires.ended_2 r1.result r1.ensures c.in-Some.in_r1 c.in-Some.is
 
-pub returns-then-in_r1-ne0 : goal.returns-then-in_r1-ne0
-returns-then-in_r1-ne0 c =
-    let r1 = c.wrong_in_string-in_r1 in
-    named-R1 c.args.b.now c.args.layout (are (goal.at.returns-then-in_r1-ne0 c).After-shared_slice_known-1) c.requires.laid_out c.requires.layout_value
-    c.requires.ended c.requires.ended_2 r1.result r1.ensures c.if-in_r1-ne0.true
+pub returns-in-Some-wrong_in_string : goal.returns-in-Some-wrong_in_string
+returns-in-Some-wrong_in_string c =
+    let r1 = c.wrong_in_string in
+    let r0 = c.wrong_in_string-2 in
+    named-R0 c.args.b.now c.args.layout (are c.args.b.now c.type_inv.b) c.requires.laid_out c.requires.layout_value
+    c.requires.ended c.requires.ended_2 r1.result r1.ensures c.in_default.is r0.result r0.ensures c.in-Some-wrong_in_string.in_r0 c.in-Some-wrong_in_string.is
 
-pub wrong_in_string-in_r0-requires : goal.wrong_in_string-in_r0-requires
-wrong_in_string-in_r0-requires c =
-    let p = c.requires in
-    record {
-      le_n = omega (arith, p.laid_out);
-      n_bound = omega (arith, p.laid_out);
-      le_bits_block = omega (arith, p.laid_out);
-      bits_block_le_most_block = omega (arith, p.laid_out);
-      n_in_bounds = omega (arith, p.laid_out);
-      lowest_wrong = p.lowest_wrong_2;
-    }
+pub returns-in-Some-wrong_after_list : goal.returns-in-Some-wrong_after_list
+returns-in-Some-wrong_after_list c =
+    let r1 = c.wrong_in_string in
+    let r0 = c.wrong_in_string-2 in
+    named_S1 c.args.b.now c.args.layout (are c.args.b.now c.type_inv.b) c.requires.laid_out c.requires.layout_value
+    c.requires.ended c.requires.ended_2 r1.result r1.ensures c.in_default.is r0.result r0.ensures c.in_default-wrong_in_string.is
+    c.wrong_after_list.result (after-r1 (goal.at.returns-in-Some-wrong_after_list c).After-wrong_after_list) c.in-Some-wrong_after_list.after_r1 c.in-Some-wrong_after_list.is
 
-pub returns-then-in_r0-ne0 : goal.returns-then-in_r0-ne0
-returns-then-in_r0-ne0 c =
-    let r1 = c.wrong_in_string-in_r1 in
-    let r0 = c.wrong_in_string-in_r0 in
-    named-R0 c.args.b.now c.args.layout (are (goal.at.returns-then-in_r0-ne0 c).After-shared_slice_known-1) c.requires.laid_out c.requires.layout_value
-    c.requires.ended c.requires.ended_2 r1.result r1.ensures c.if-in_r1-ne0.false r0.result r0.ensures c.if-in_r0-ne0.true
-
-pub returns-then-after_r1-ne0 : goal.returns-then-after_r1-ne0
-returns-then-after_r1-ne0 c =
-    let r1 = c.wrong_in_string-in_r1 in
-    let r0 = c.wrong_in_string-in_r0 in
-    named_S1 c.args.b.now c.args.layout (are (goal.at.returns-then-after_r1-ne0 c).After-shared_slice_known-1) c.requires.laid_out c.requires.layout_value
-    c.requires.ended c.requires.ended_2 r1.result r1.ensures c.if-in_r1-ne0.false
-    r0.result r0.ensures c.if-in_r0-ne0.false c.wrong_after_list-after_r1.result (after-r1 (goal.at.returns-then-after_r1-ne0 c).After-wrong_after_list-after_r1) c.if-after_r1-ne0.true
-
-pub wrong_after_list-after_r0-requires : goal.wrong_after_list-after_r0-requires
-wrong_after_list-after_r0-requires c =
-    let p = c.requires in
-    let e = c.samples_of-samples.ensures in
-    record { le_count = omega (arith, e, p.le_runs); count_bound = omega (arith, e, p.runs_bound); block_le_most_block = omega (arith, p.laid_out); count_in_bounds = omega (arith, e, p.laid_out) }
-
-pub returns-then-after_r0-ne0 : goal.returns-then-after_r0-ne0
-returns-then-after_r0-ne0 c =
-    let r1 = c.wrong_in_string-in_r1 in
-    let r0 = c.wrong_in_string-in_r0 in
-    named_S0 c.args.b.now c.args.layout (are (goal.at.returns-then-after_r0-ne0 c).After-shared_slice_known-1) c.requires.laid_out c.requires.layout_value
-    c.requires.ended c.requires.ended_2 r1.result r1.ensures c.if-in_r1-ne0.false
-    r0.result r0.ensures c.if-in_r0-ne0.false c.wrong_after_list-after_r1.result (after-r1 (goal.at.returns-then-after_r0-ne0 c).After-wrong_after_list-after_r1) c.if-after_r1-ne0.false
-    c.wrong_after_list-after_r0.result (after-r0 (goal.at.returns-then-after_r0-ne0 c).After-wrong_after_list-after_r0) c.if-after_r0-ne0.true
+pub returns-in-Some-wrong_after_list-2 : goal.returns-in-Some-wrong_after_list-2
+returns-in-Some-wrong_after_list-2 c =
+    let r1 = c.wrong_in_string in
+    let r0 = c.wrong_in_string-2 in
+    named_S0 c.args.b.now c.args.layout (are c.args.b.now c.type_inv.b) c.requires.laid_out c.requires.layout_value
+    c.requires.ended c.requires.ended_2 r1.result r1.ensures c.in_default.is r0.result r0.ensures c.in_default-wrong_in_string.is
+    c.wrong_after_list.result (after-r1 (goal.at.returns-in-Some-wrong_after_list-2 c).After-wrong_after_list) c.in_default-wrong_after_list.is
+    c.wrong_after_list-2.result (after-r0 (goal.at.returns-in-Some-wrong_after_list-2 c).After-wrong_after_list-2) c.in-Some-wrong_after_list-2.after_r0 c.in-Some-wrong_after_list-2.is
 
 pub returns : goal.returns
 returns c =
-    let r1 = c.wrong_in_string-in_r1 in
-    let r0 = c.wrong_in_string-in_r0 in
-    named-metres c.args.b.now c.args.layout (are (goal.at.returns c).After-shared_slice_known-1) c.requires.laid_out c.requires.layout_value
-    c.requires.ended c.requires.ended_2 r1.result r1.ensures c.if-in_r1-ne0.false
-    r0.result r0.ensures c.if-in_r0-ne0.false c.wrong_after_list-after_r1.result (after-r1 (goal.at.returns c).After-wrong_after_list-after_r1) c.if-after_r1-ne0.false
-    c.wrong_after_list-after_r0.result (after-r0 (goal.at.returns c).After-wrong_after_list-after_r0) c.if-after_r0-ne0.false c.wrong_after_metres.result c.wrong_after_metres.ensures
+    let r1 = c.wrong_in_string in
+    let r0 = c.wrong_in_string-2 in
+    named-metres c.args.b.now c.args.layout (are c.args.b.now c.type_inv.b) c.requires.laid_out c.requires.layout_value
+    c.requires.ended c.requires.ended_2 r1.result r1.ensures c.in_default.is r0.result r0.ensures c.in_default-wrong_in_string.is
+    c.wrong_after_list.result (after-r1 (goal.at.returns c).After-wrong_after_list) c.in_default-wrong_after_list.is
+    c.wrong_after_list-2.result (after-r0 (goal.at.returns c).After-wrong_after_list-2) c.in_default-wrong_after_list-2.is c.wrong_after_metres.result c.wrong_after_metres.ensures

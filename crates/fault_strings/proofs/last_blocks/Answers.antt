@@ -1,5 +1,5 @@
 use mathlib.Core.Path.{◌≡◌, sym, ap, ◌∙◌}
-use Prim.Native.Nat.{ℕ, ◌+◌, ◌-◌, ◌*◌}
+use Prim.Native.Nat.{◌+◌, ◌-◌, ◌*◌}
 use native.Mathlib.Omega.{arith}
 use Rattle.theory.proofs.InBlocks.{string-ones-le, counted_on}
 use Rattle.image_string.specs.Parts.{ones_to}
@@ -9,20 +9,11 @@ use Rattle.fault_strings.specs.Given.{LastBlocks}
 use Rattle.fault_strings.proofs.last_blocks.Goals as goal
 use Rattle.fault_strings.proofs.last_blocks.Goals.{After-last_block-last, After-ones_from, After-ones_from-2}
 
--- the ones before the last block
-module _ (c : goal.After-last_block-last) where
-  abbrev j : ℕ
-  j = c.last_block-last.result
-
-  before1 : c.args.ones1 ≡ ones_to c.args.b.now 1 (4000 * j)
-  before1 = c.requires.ones1_value ∙ ap (λ i. ones_to c.args.b.now 1 (4000 * i)) (sym c.last_block-last.ensures)
-
-  before0 : c.args.ones0 ≡ ones_to c.args.b.now c.args.r0_block (4000 * j)
-  before0 = c.requires.ones0_value ∙ ap (λ i. ones_to c.args.b.now c.args.r0_block (4000 * i)) (sym c.last_block-last.ensures)
-
-  -- with the last block these are all of R1's bits, and R0's but for the last
-  whole : 4000 * j + (c.args.n - 4000 * j) ≡ c.args.n
-  whole = omega (arith, c.last_block-last.ensures)
+-- with the last block these are all of R1's bits, and R0's but for the last
+whole : (c : goal.After-last_block-last)
+    → let j = c.last_block-last.result in
+    4000 * j + (c.args.n - 4000 * j) ≡ c.args.n
+whole c = omega (arith, c.last_block-last.ensures)
 
 -- the ones of R1 in all
 all1 : (c : goal.After-ones_from)
@@ -46,24 +37,6 @@ all0 c =
     counted_on a.b.now a.r0_block j (a.n - 4000 * j) c.bits_at-2.result a.ones0 c.ones_from-2.result
     (omega (arith, c.last_block-last.ensures)) c.bits_at-2.ensures (c.requires.ones0_value ∙ ap (λ i. ones_to a.b.now a.r0_block (4000 * i)) (sym c.last_block-last.ensures)) c.ones_from-2.ensures
 
-pub last_block-last-requires : goal.last_block-last-requires
-last_block-last-requires c = omega arith
-
-pub overflow_mul-rest : goal.overflow_mul-rest
-overflow_mul-rest c = omega (arith, c.last_block-last.ensures)
-
-pub overflow_sub-rest : goal.overflow_sub-rest
-overflow_sub-rest c = omega (arith, c.last_block-last.ensures)
-
-pub overflow_add-last : goal.overflow_add-last
-overflow_add-last c = omega (arith, c.last_block-last.ensures)
-
-pub bits_at-requires : goal.bits_at-requires
-bits_at-requires c = omega (arith, c.last_block-last.ensures)
-
-pub ones_from-requires : goal.ones_from-requires
-ones_from-requires c = omega (arith, c.last_block-last.ensures, c.bits_at.ensures)
-
 pub overflow_add-end1 : goal.overflow_add-end1
 overflow_add-end1 c =
     let a = c.args in
@@ -73,15 +46,6 @@ overflow_add-end1 c =
 pub returns-then-end1-m : goal.returns-then-end1-m
 returns-then-end1-m c =
     λ g. c.if-end1-m.true (all1 (goal.at.returns-then-end1-m c).After-ones_from ∙ ap (ones_to c.args.b.now 1) (whole (goal.at.returns-then-end1-m c).After-last_block-last) ∙ g.ones1)
-
-pub overflow_add-r0_block : goal.overflow_add-r0_block
-overflow_add-r0_block c = omega (arith, c.last_block-last.ensures)
-
-pub bits_at-requires-2 : goal.bits_at-requires-2
-bits_at-requires-2 c = omega (arith, c.last_block-last.ensures)
-
-pub ones_from-requires-2 : goal.ones_from-requires-2
-ones_from-requires-2 c = omega (arith, c.last_block-last.ensures, c.bits_at-2.ensures)
 
 pub overflow_add-end0 : goal.overflow_add-end0
 overflow_add-end0 c =
@@ -101,18 +65,8 @@ returns-then-end0-m c =
     λ g. c.if-end0-m.true
     (ap (λ k. k + 1) (all0 (goal.at.returns-then-end0-m c).After-ones_from-2 ∙ ap (ones_to a.b.now a.r0_block) (whole (goal.at.returns-then-end0-m c).After-last_block-last)) ∙ g.ones0)
 
-pub block_step-requires : goal.block_step-requires
-block_step-requires c =
-    let last = c.last_block-last.ensures in
-    record {
-      n_bound = omega arith;
-      b_len_bound = omega arith;
-      j_in_bounds = omega arith;
-      j_in_bounds_2 = omega arith;
-      ones1_value = before1 (goal.at.block_step-requires c).After-last_block-last;
-      ones0_value = before0 (goal.at.block_step-requires c).After-last_block-last;
-      end1_value = all1 (goal.at.block_step-requires c).After-ones_from;
-    }
+pub block_step-requires-clause-end1_value : goal.block_step-requires-clause-end1_value
+block_step-requires-clause-end1_value c = all1 (goal.at.block_step-requires-clause-end1_value c).After-ones_from
 
 pub returns : goal.returns
 returns c =

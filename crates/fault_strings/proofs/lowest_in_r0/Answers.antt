@@ -2,39 +2,18 @@ use mathlib.Core.Path.{◌≡◌, ap, subst, ◌∙◌}
 use Prim.Native.Nat.{◌+◌, ◌*◌}
 use native.Mathlib.Omega.{arith}
 use Rattle.meaning.specs.Image.{string_blocks}
-use Rattle.theory.specs.Faults.{LowestWrong}
 use Rattle.image_string.specs.Parts.{ones_to}
+use Rattle.fault_strings.specs.Lowest.{LowestBlock}
 use Rattle.fault_strings.specs.Given.{CountKept}
 use Rattle.fault_strings.proofs.Finding.{lowest_more}
 use Rattle.fault_strings.proofs.lowest_in_r0.Goals as goal
-
-pub overflow_add-n : goal.overflow_add-n
-overflow_add-n c = omega arith
-
-pub last_block-last-requires : goal.last_block-last-requires
-last_block-last-requires c = omega arith
-
-pub string_blocks-requires : goal.string_blocks-requires
-string_blocks-requires c = omega arith
 
 -- no block more than those of its first n bits
 pub returns-then-last-string_blocks : goal.returns-then-last-string_blocks
 returns-then-last-string_blocks c =
     let a = c.args in
-    subst (λ k. LowestWrong (CountKept a.b.now a.r0_block) a.r0_block k a.found)
+    subst (λ k. LowestBlock (CountKept a.b.now a.r0_block) a.r0_block k a.found)
     (let e : string_blocks a.n ≡ string_blocks (a.n + 1) = omega (arith, c.if-last-string_blocks.true, c.string_blocks.ensures, c.last_block-last.ensures) in e) c.requires.lowest_wrong
-
-pub overflow_add-block : goal.overflow_add-block
-overflow_add-block c = omega (arith, c.last_block-last.ensures)
-
-pub overflow_mul-block : goal.overflow_mul-block
-overflow_mul-block c = omega (arith, c.last_block-last.ensures)
-
-pub word-requires : goal.word-requires
-word-requires c = omega (arith, c.last_block-last.ensures)
-
-pub lowest_wrong-requires : goal.lowest_wrong-requires
-lowest_wrong-requires c = omega (arith, c.last_block-last.ensures)
 
 -- one block more, and all blocks before it are full
 pub returns : goal.returns
@@ -44,8 +23,8 @@ returns c =
     let k = string_blocks a.n in
     let same : last.result ≡ k = omega (arith, c.if-last-string_blocks.false, c.string_blocks.ensures, last.ensures) in
     let full : a.n ≡ 4000 * k = omega (arith, same, last.ensures) in
-    subst (λ i. LowestWrong (CountKept a.b.now a.r0_block) a.r0_block i c.lowest_wrong.result)
+    subst (λ i. LowestBlock (CountKept a.b.now a.r0_block) a.r0_block i c.lowest_wrong.result)
     (let f : k + 1 ≡ string_blocks (a.n + 1) = omega (arith, full) in f)
     (lowest_more a.b.now a.r0_block k a.found (a.r0_block + last.result) c.word.result a.ones c.lowest_wrong.result
-    c.requires.le_r0_block (ap (λ i. a.r0_block + i) same) c.word.ensures (c.requires.ones_value ∙ ap (ones_to a.b.now a.r0_block) full)
+    (ap (λ i. a.r0_block + i) same) c.word.ensures (c.requires.ones_value ∙ ap (ones_to a.b.now a.r0_block) full)
     c.requires.lowest_wrong c.lowest_wrong.ensures)

@@ -1,16 +1,17 @@
-use mathlib.Core.Path.{refl}
-use native.Mathlib.Omega.{arith}
-use Rattle.fault_strings.specs.Given.{earlier, right, this}
+use mathlib.Core.Path.{◌≡◌, refl}
+use Prim.Native.Nat.{ℕ}
+use Rattle.std.specs.Prelude.{Option, Some, None}
+use Rattle.std.specs.Option.{option_or}
+use Rattle.fault_strings.specs.Given.{Lowest, earlier, right, this}
 use Rattle.fault_strings.proofs.lowest_wrong.Goals as goal
+
+-- the earlier of the two, where `block` counts wrong
+earlier_one : (found : Option ℕ) (block kept ones : ℕ) (r : Option ℕ) → (kept ≡ ones → ⊥) → r ≡ option_or found (Some block) → Lowest found block kept ones r
+earlier_one None block kept ones r other e = this refl other e
+earlier_one (Some p) block kept ones r other e = earlier p refl e
 
 pub returns-then-kept-ones : goal.returns-then-kept-ones
 returns-then-kept-ones c = right c.if-kept-ones.true refl
 
-pub returns-then-found-ne0 : goal.returns-then-found-ne0
-returns-then-found-ne0 c = earlier c.if-found-ne0.true refl
-
-pub overflow_cast-result : goal.overflow_cast-result
-overflow_cast-result c = omega arith
-
 pub returns : goal.returns
-returns c = this c.if-found-ne0.false c.if-kept-ones.false refl
+returns c = earlier_one c.args.found c.args.block c.args.kept c.args.ones c.or.result c.if-kept-ones.false c.or.ensures

@@ -1,10 +1,10 @@
+use Rattle.std.specs.Prelude.{Err}
 use mathlib.Core.Path.{◌≡◌, sym, ap, ap₂, ◌∙◌}
 use Prim.Native.Nat.{ℕ, suc, ◌+◌, ◌-◌}
 use native.Mathlib.Numerals.{add-one}
 use native.Mathlib.Omega.{arith}
 use lib.ListN.{length-set}
 use Rattle.meaning.specs.Image.{parents_in}
-use Rattle.list_measure.specs.declared.Measured.TheVariants.{TooDeep}
 use Rattle.list_measure.specs.Levels.{ones_before_in, below, levels_from}
 use Rattle.list_measure.proofs.Levels.{levels-end, levels-deep, levels_more, levels-size}
 use Rattle.list_measure.proofs.Numbers.{ones_before_in_mono, ones_before_in_kids, ones_before_in_most, by_is_in, most_nodes}
@@ -38,7 +38,7 @@ pub returns-then-depth-eq64 : goal.returns-then-depth-eq64
 returns-then-depth-eq64 c =
     let l = c.loop-a in
     let b = c.args.b.now in record {
-      value = ap TooDeep (let e : l.a + 1 ≡ suc l.a = omega arith in e)
+      value = ap Err (let e : l.a + 1 ≡ suc l.a = omega arith in e)
           ∙ sym (levels-deep (λ k. ones_before_in b (suc k)) (64 - l.depth) l.a l.z l.nodes (omega arith) c.loop-a-test.true)
           ∙ l.invariant.0;
       cursors_len_2 = l.invariant.5;

@@ -60,7 +60,8 @@ record Next (b : List ℕ) (x left : ℕ) (cs₀ out₀ cs out : List ℕ) (fill
   level : 65 - left < 64
   node : IsNode b (layout_in b) (get_or cs (65 - left) 0 + 1)
   most : nodes_of b ≤ 65535
-  ready : CursorsReady (below b) (drop (suc (65 - left)) (set cs (65 - left) (get_or cs (65 - left) 0 + 1))) (ones_before_in b (get_or cs (65 - left) 0 + 1)) (ones_before_in b (get_or cs (65 - left) 0 + 1 + 1))
+  ready : CursorsReady (below b) (drop (suc (65 - left)) (set cs (65 - left) (get_or cs (65 - left) 0 + 1)))
+      (ones_before_in b (get_or cs (65 - left) 0 + 1)) (ones_before_in b (get_or cs (65 - left) 0 + 1 + 1))
   some : 2 ≤ length (pairs_of b (left - 1) (get_or cs (65 - left) 0 + 1))
   room : (length out ≡ length out₀) × (filled + length (pairs_of b (left - 1) (get_or cs (65 - left) 0 + 1)) ≤ length out₀)
 

@@ -3,7 +3,7 @@ use native.Mathlib.Omega.{arith}
 use Rattle.meaning.specs.Bytes.{value}
 use Rattle.theory.specs.ByStrings.{bit_of, within}
 use Rattle.theory.specs.Stages.{read_r0}
-use Rattle.ask_argument.specs.Values.{value_of}
+use Rattle.ask_argument.proofs.Passed.{moved_passed}
 use Rattle.nav_strings.proofs.Bits.{node_in, r0_begins}
 use Rattle.nav_children.proofs.Families.{child_none, has_child, small, child_some}
 use Rattle.nav_children.proofs.child_number.Goals as goal
@@ -18,7 +18,7 @@ bit_r0-requires c = let node = c.requires in record { node = node_in node; r0_bl
 
 pub returns-then-bit_r0-eq0 : goal.returns-then-bit_r0-eq0
 returns-then-bit_r0-eq0 c =
-    child_none c.requires c.bit_r0.result c.bit_r0.ensures c.if-bit_r0-eq0.true (value_of c.args.z)
+    child_none c.requires c.bit_r0.result c.bit_r0.ensures c.if-bit_r0-eq0.true c.args.z
 
 pub children_of-children-requires : goal.children_of-children-requires
 children_of-children-requires c = record { node = c.requires; x_value = one (goal.at.children_of-children-requires c).Else-bit_r0-eq0 }
@@ -36,5 +36,5 @@ overflow_cast-result c =
 pub returns : goal.returns
 returns c =
     let r = c.children_of-children in
-    child_some c.requires (one (goal.at.returns c).Else-bit_r0-eq0) r.result r.ensures c.in_range.result (value_of c.args.z)
-    (c.in_range.ensures.0 ∙ ap (within r.result.after r.result.last) c.shifted.ensures)
+    child_some c.requires (one (goal.at.returns c).Else-bit_r0-eq0) r.result r.ensures c.in_range.result c.args.z
+    (c.in_range.ensures.0 ∙ ap (within r.result.after r.result.last) (c.shifted.ensures ∙ moved_passed r.result.after c.args.z c.ranges.z))

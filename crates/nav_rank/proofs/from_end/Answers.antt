@@ -24,48 +24,9 @@ taken c last e =
     end_is a.b.now a.bits_block a.j a.p p.p_bound a.end c.ones_before.result c.ones_in_words.result last p.end_value
     rest words half
 
-pub overflow_add-bits_block : goal.overflow_add-bits_block
-overflow_add-bits_block c = omega arith
-
-pub bits_at-start-requires : goal.bits_at-start-requires
-bits_at-start-requires c = omega arith
-
-pub overflow_mul-at : goal.overflow_mul-at
-overflow_mul-at c = omega arith
-
-pub overflow_add-at : goal.overflow_add-at
-overflow_add-at c = omega arith
-
-pub ones_before-requires : goal.ones_before-requires
-ones_before-requires c = omega arith
-
-pub overflow_cast-result : goal.overflow_cast-result
-overflow_cast-result c = omega arith
-
-pub overflow_add-result : goal.overflow_add-result
-overflow_add-result c = omega arith
-
-pub overflow_sub-p : goal.overflow_sub-p
-overflow_sub-p c = omega arith
-
-pub ones_in_words-requires : goal.ones_in_words-requires
-ones_in_words-requires c = omega arith
-
-pub overflow_cast-result-2 : goal.overflow_cast-result-2
-overflow_cast-result-2 c = omega arith
-
 pub overflow_sub-result : goal.overflow_sub-result
 overflow_sub-result c =
     omega (arith, taken (goal.at.overflow_sub-result c).After-ones_in_words (ones (bits_from c.args.b.now (8 * (c.bits_at-start.result + 496)) 32)) refl)
-
-pub overflow_add-start : goal.overflow_add-start
-overflow_add-start c = omega arith
-
-pub ones_before-requires-2 : goal.ones_before-requires-2
-ones_before-requires-2 c = omega arith
-
-pub overflow_cast-result-3 : goal.overflow_cast-result-3
-overflow_cast-result-3 c = omega arith
 
 pub overflow_sub-result-2 : goal.overflow_sub-result-2
 overflow_sub-result-2 c = omega (arith, taken (goal.at.overflow_sub-result-2 c).After-ones_in_words c.ones_before-2.result c.ones_before-2.ensures)

@@ -5,29 +5,11 @@ use Rattle.image_string.proofs.Ones.{ones_to-le}
 use Rattle.nav_rank.proofs.Counts.{last_end, next-end}
 use Rattle.nav_rank.proofs.ones_to_end.Goals as goal
 
-pub last_block-requires : goal.last_block-requires
-last_block-requires c = omega arith
-
 pub returns-then-j-last_block : goal.returns-then-j-last_block
 returns-then-j-last_block c =
     let a = c.args in
     let p = c.requires in
     (p.m_value ∙ last_end a.b.now a.bits_block a.n p.counts_and_padding a.j (omega arith) (omega arith), omega (arith, ones_to-le a.b.now a.bits_block a.n))
-
-pub overflow_add-bits_block : goal.overflow_add-bits_block
-overflow_add-bits_block c = omega arith
-
-pub overflow_add-bits_block-2 : goal.overflow_add-bits_block-2
-overflow_add-bits_block-2 c = omega arith
-
-pub overflow_mul-bits_block : goal.overflow_mul-bits_block
-overflow_mul-bits_block c = omega arith
-
-pub word-requires : goal.word-requires
-word-requires c = omega arith
-
-pub overflow_cast-result : goal.overflow_cast-result
-overflow_cast-result c = omega arith
 
 pub returns : goal.returns
 returns c =

@@ -32,24 +32,6 @@ most c =
     let n = length a.b.now in
     omega (arith, there c, bits-ones-le a.b.now (8 * at) (8 * (n - 7 - at)))
 
-pub overflow_add-bits_block : goal.overflow_add-bits_block
-overflow_add-bits_block c = omega arith
-
-pub bits_at-requires : goal.bits_at-requires
-bits_at-requires c = omega arith
-
-pub overflow_add-at : goal.overflow_add-at
-overflow_add-at c = omega arith
-
-pub bounds-b-at : goal.bounds-b-at
-bounds-b-at c = omega arith
-
-pub ones_in_front-passed-requires : goal.ones_in_front-passed-requires
-ones_in_front-passed-requires c = omega arith
-
-pub overflow_sub-result : goal.overflow_sub-result
-overflow_sub-result c = omega arith
-
 pub overflow_cast-more : goal.overflow_cast-more
 overflow_cast-more c = omega (arith, most (goal.at.overflow_cast-more c).After-ones_in_front-passed)
 
@@ -59,8 +41,8 @@ overflow_add-passed c = omega (arith, most (goal.at.overflow_add-passed c).After
 pub overflow_add-passed-2 : goal.overflow_add-passed-2
 overflow_add-passed-2 c = omega (arith, most (goal.at.overflow_add-passed-2 c).After-ones_in_front-passed)
 
-pub place_from-requires : goal.place_from-requires
-place_from-requires c = record { le_k = omega arith; b_len_bound = omega arith; k_bound = there (goal.at.place_from-requires c).After-ones_in_front-passed }
+pub place_from-requires-clause-k_bound : goal.place_from-requires-clause-k_bound
+place_from-requires-clause-k_bound c = there (goal.at.place_from-requires-clause-k_bound c).After-ones_in_front-passed
 
 pub overflow_add-result : goal.overflow_add-result
 overflow_add-result c =

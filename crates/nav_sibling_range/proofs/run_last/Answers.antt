@@ -1,7 +1,7 @@
 use mathlib.Core.Path.{subst}
 use Prim.Native.Nat.{◌-◌, ◌*◌, ◌%◌}
 use native.Mathlib.Omega.{arith}
-use Rattle.bits_nearest.specs.Found.{FirstOne}
+use Rattle.bits_nearest.specs.Found.{IsFirst}
 use Rattle.nav_strings.proofs.Strings.{ready1}
 use Rattle.nav_sibling_range.proofs.Near.{near_right}
 use Rattle.nav_sibling_range.proofs.run_last.Goals as goal
@@ -11,8 +11,8 @@ bits_at-requires c =
     let r = ready1 c.args.b.now c.args.image c.requires.sound in
     omega (arith, r.most)
 
-pub first_one-found-requires : goal.first_one-found-requires
-first_one-found-requires c =
+pub first_one-requires : goal.first_one-requires
+first_one-requires c =
     let a = c.args in
     let r = ready1 a.b.now a.image c.requires.sound in
     record { n_bound = omega arith; at_in_bounds = omega (arith, r.most, r.room) }
@@ -21,9 +21,9 @@ pub overflow_sub-result : goal.overflow_sub-result
 overflow_sub-result c = omega arith
 
 pub overflow_add-result : goal.overflow_add-result
-overflow_add-result c = omega (arith, c.first_one-found.ensures.within)
+overflow_add-result c = omega (arith, c.in-Some.ensures.within)
 
 pub returns : goal.returns
 returns c =
-    let found = c.first_one-found in
-    near_right c.requires found.result (subst (λ p. FirstOne c.args.b.now (8 * p) ((c.args.x - 1) % 4000) found.result) c.bits_at.ensures found.ensures) c.if-found-eq4000.false
+    let found = c.in-Some.found in
+    near_right c.requires found (subst (λ p. IsFirst c.args.b.now (8 * p) ((c.args.x - 1) % 4000) found) c.bits_at.ensures c.in-Some.ensures)

@@ -1,20 +1,18 @@
-use mathlib.Core.Path.{ap, ap₂, ◌∙◌}
-use mathlib.Core.Bool.{not}
-use lib.Dec.{eqb}
+use mathlib.Core.Path.{◌≡◌, sym, ap, ap₂, ◌∙◌}
 use Rattle.meaning.specs.Answers.{◌at◌when◌, alone, over}
-use Rattle.pack_check.proofs.Rows.{held}
+use Rattle.pack_scan.specs.Numbers.{pack_row}
+use Rattle.pack_check.proofs.Rows.{is_over, held}
 use Rattle.pack_check.proofs.check_and_note.Goals as goal
+use Rattle.pack_check.proofs.check_and_note.Goals.{in-Ok, in-Err}
 
-pub returns : goal.returns
-returns c =
+pub returns-clause-value : goal.returns-clause-value
+returns-clause-value c =
     let a = c.args in
+    let scan = c.scan_trees-pack in
     let leftover = c.row-leftover.ensures ∙ ap (λ b. alone (5 at 0 when b)) c.leftover_set.ensures in
-    let string = c.row-string.ensures ∙ ap (λ x. alone (4 at x when not (eqb x 0))) c.place_in-place.ensures in
-    let count = c.row-count.ensures ∙ ap (λ x. alone (10 at x when not (eqb x a.trees))) c.trees_in-found.ensures in
-    let scan = c.scan_trees-pack.ensures in record {
-      value = c.upper-2.ensures
-          ∙ ap₂ over leftover (c.upper.ensures ∙ ap₂ over string count)
-          ∙ held a.b.now a.n a.trees c.scan_trees-pack.result c.scan_trees-pack.ensures.result_value;
-      firsts_after = λ e. c.scan_trees-pack.ensures.firsts_after;
-      counts_after = λ e. c.scan_trees-pack.ensures.counts_after;
-    }
+    let by_scan : c.match-pack.held ≡ alone (pack_row scan.result a.trees) =
+    elim c.match-pack.branch [
+      | in-Ok w ↦ w.held-is ∙ w.row-held.ensures ∙ ap (λ p. alone (pack_row p a.trees)) (sym w.in-Ok.is)
+      | in-Err w ↦ w.held-is ∙ ap (λ p. alone (pack_row p a.trees)) (sym w.in-Err.is)
+    ]
+    in c.and.ensures ∙ is_over c.row-leftover.result c.match-pack.held ∙ ap₂ over leftover by_scan ∙ held a.b.now a.n a.trees scan.result scan.ensures.result_value

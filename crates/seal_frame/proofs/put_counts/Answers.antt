@@ -17,8 +17,5 @@ loop-j-preserved c =
     let p = c.requires in
     counting-next _ _ _ _ _ _ l.invariant (omega arith) p.n_bound p.n_in_bounds _ _ _ c.put_word.ensures c.bits_at.ensures c.ones_from-c.ensures
 
-pub shape_of-image : goal.shape_of-image
-shape_of-image c = c.loop-j.invariant.kept
-
 pub returns : goal.returns
 returns c = counting-last _ _ _ _ _ _ c.loop-j.invariant (omega arith)

@@ -1,34 +1,11 @@
 use mathlib.Core.Path.{◌≡◌, ap, ◌∙◌}
 use Prim.Native.Nat.{◌-◌}
 use native.Mathlib.Omega.{arith}
-use borrow.Author.Rules.{rules}
 use lib.ListN.{length}
 use Rattle.parents_check.proofs.Rising.{good_parents}
 use Rattle.image_layout.specs.declared.Layout.{Layout}
-use Rattle.seal_image.proofs.Preparing.{few-runs, few-metres, blocks_split, ready, room_for_metres, all_prepared}
+use Rattle.seal_image.proofs.Preparing.{few-runs, few-metres, blocks_split, room_for_metres, all_prepared}
 use Rattle.seal_image.proofs.fill.Goals as goal
-
-pub clear-requires : goal.clear-requires
-clear-requires c = omega (arith, ap (λ (l : Layout). l.blocks) c.requires.layout_value)
-
-pub write_strings-requires : goal.write_strings-requires
-write_strings-requires c =
-    let a = c.args in
-    let p = c.requires in
-    ready a.image.now _ a.ps.now a.metres.now a.layout p.in_bounds p.ps_len_bound p.ps_value p.metres_len p.layout_value c.clear.ensures p.ps_in_bounds
-
-pub put_counts-requires-2 : goal.put_counts-requires-2
-put_counts-requires-2 c =
-    let zeros = ap (λ (l : Layout). l.r0_block) c.requires.layout_value in
-    search rules
-
-pub list_blocks-requires : goal.list_blocks-requires
-list_blocks-requires c = omega (arith, few-metres (length c.args.ps.now) c.args.metres.now c.requires.metres_len)
-
-pub overflow_sub-metres_block : goal.overflow_sub-metres_block
-overflow_sub-metres_block c =
-    let a = c.args in
-    omega (arith, c.list_blocks.ensures, blocks_split a.ps.now a.metres.now a.layout c.requires.metres_len c.requires.layout_value)
 
 pub put_metres-requires : goal.put_metres-requires
 put_metres-requires c =
@@ -47,11 +24,6 @@ put_metres-requires c =
       blank = room_for_metres a.image.now _ a.ps.now a.metres.now a.layout p.in_bounds p.ps_len_bound p.ps_value p.metres_len p.layout_value c.clear.ensures _ _ _ _
           (ap (λ k. a.layout.blocks - k) c.list_blocks.ensures) c.write_strings.ensures c.put_counts.ensures c.put_counts-2.ensures;
     }
-
-pub put_header-requires : goal.put_header-requires
-put_header-requires c =
-    let size : length c.put_counts-2.new.image ≡ length c.args.image.now = c.put_counts-2.auto.image ∙ c.put_counts.auto.image ∙ c.write_strings.auto.image ∙ c.clear.auto.image in
-    omega (arith, c.put_metres.auto.image, size, c.requires.ps_in_bounds)
 
 pub returns : goal.returns
 returns c =

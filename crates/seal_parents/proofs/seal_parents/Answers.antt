@@ -1,9 +1,10 @@
+use Rattle.std.specs.Prelude.{Ok, Err}
+use Rattle.std.proofs.Common.{rules}
 use mathlib.Core.Path.{◌≡◌, sym, ap₂, ap, ◌∙◌}
 use native.Mathlib.Omega.{arith}
 use lib.ListN.{length}
 use Rattle.meaning.specs.Image.{version_of}
-use Rattle.meaning.specs.declared.Verdict.TheVariants.{Passed}
-use Rattle.meaning.specs.Answers.{first_holding}
+use Rattle.meaning.specs.Answers.{answer_of, first_holding}
 use Rattle.meaning.specs.Tests.{parent_rows}
 use Rattle.theory.proofs.Settled.{answered}
 use Rattle.parents_check.proofs.Refusing.{writable}
@@ -14,11 +15,11 @@ use Rattle.seal_image.specs.Given.{given}
 use Rattle.seal_image.proofs.Preparing.{few-runs}
 use Rattle.seal_parents.proofs.Answers.{seal_refused, seal_room, seal_made}
 use Rattle.seal_parents.proofs.seal_parents.Goals as goal
-use Rattle.seal_parents.proofs.seal_parents.Goals.{After-layout_of-layout, In-Passed}
+use Rattle.seal_parents.proofs.seal_parents.Goals.{After-layout_of-layout, In_ok-parents_refusal}
 
 -- the list may be written
-passed : (t : goal.In-Passed) → Passed ≡ first_holding (parent_rows t.args.parents.now)
-passed t = sym t.in-Passed.is ∙ t.parents_refusal-verdict.ensures
+passed : (t : goal.In_ok-parents_refusal) → (Ok tt) ≡ first_holding (parent_rows t.args.parents.now)
+passed t = sym t.in_ok-parents_refusal.was ∙ t.parents_refusal.ensures
 
 -- the layout is that of the two lists
 laid : (c : goal.After-layout_of-layout)
@@ -29,22 +30,22 @@ laid c =
     c.layout_of-layout.ensures ∙ ap₂ (λ v m. layout_of v (length a.parents.now) m) c.version_by.ensures c.count_runs.ensures
 
 pub count_runs-requires : goal.count_runs-requires
-count_runs-requires c = let w = writable _ (passed (goal.at.count_runs-requires c).In-Passed) in record { in_bounds = w.some; ps_len_bound = w.most; ps_value = w.good }
+count_runs-requires c = let w = writable _ (passed (goal.at.count_runs-requires c).In_ok-parents_refusal) in record { in_bounds = w.some; ps_len_bound = w.most; ps_value = w.good }
 
 pub layout_of-layout-requires : goal.layout_of-layout-requires
 layout_of-layout-requires c =
-    let w = writable _ (passed (goal.at.layout_of-layout-requires c).In-Passed) in
+    let w = writable _ (passed (goal.at.layout_of-layout-requires c).In_ok-parents_refusal) in
     record { n_bound = w.most; m_bound = omega (arith, c.count_runs.ensures, few-runs _ w.parents, w.most) }
 
 pub returns-then-image-layout : goal.returns-then-image-layout
 returns-then-image-layout c =
     let blocks = ap (λ (i : Layout). i.blocks) (laid (goal.at.returns-then-image-layout c).After-layout_of-layout) in
-    answered c.refuse-then-image-layout.ensures
-    (seal_room c.args.metres.now c.args.parents.now c.args.image.now c.requires (passed (goal.at.returns-then-image-layout c).In-Passed) (omega (arith, blocks, c.if-image-layout.true)))
+    answered (ap answer_of c.refuse.ensures)
+    (seal_room c.args.metres.now c.args.parents.now c.args.image.now c.requires (passed (goal.at.returns-then-image-layout c).In_ok-parents_refusal) (omega (arith, blocks, c.if-image-layout.true)))
 
 pub write_image-requires : goal.write_image-requires
 write_image-requires c =
-    let w = writable _ (passed (goal.at.write_image-requires c).In-Passed) in
+    let w = writable _ (passed (goal.at.write_image-requires c).In_ok-parents_refusal) in
     let blocks = ap (λ (i : Layout). i.blocks) (laid (goal.at.write_image-requires c).After-layout_of-layout) in
     record {
       in_bounds = w.some;
@@ -55,14 +56,14 @@ write_image-requires c =
       ps_in_bounds = omega (arith, blocks, c.if-image-layout.false);
     }
 
-pub returns-in-Refused : goal.returns-in-Refused
-returns-in-Refused c =
-    answered c.refuse.ensures
-    (seal_refused c.args.metres.now c.args.parents.now c.args.image.now c.requires (sym c.in-Refused.is ∙ c.parents_refusal-verdict.ensures))
+pub returns-in_err-parents_refusal : goal.returns-in_err-parents_refusal
+returns-in_err-parents_refusal c =
+    let e : c.from_residual.result ≡ Err c.in_err-parents_refusal.field-0.0 = search rules in
+    answered (ap answer_of e) (seal_refused c.args.metres.now c.args.parents.now c.args.image.now c.requires (sym c.in_err-parents_refusal.was ∙ c.parents_refusal.ensures))
 
-pub returns-else-image-layout : goal.returns-else-image-layout
-returns-else-image-layout c =
-    let blocks = ap (λ (i : Layout). i.blocks) (laid (goal.at.returns-else-image-layout c).After-layout_of-layout) in
-    seal_made c.args.metres.now c.args.parents.now c.args.image.now c.requires (passed (goal.at.returns-else-image-layout c).In-Passed)
-    (laid (goal.at.returns-else-image-layout c).After-layout_of-layout) (omega (arith, blocks, c.if-image-layout.false))
+pub returns : goal.returns
+returns c =
+    let blocks = ap (λ (i : Layout). i.blocks) (laid (goal.at.returns c).After-layout_of-layout) in
+    seal_made c.args.metres.now c.args.parents.now c.args.image.now c.requires (passed (goal.at.returns c).In_ok-parents_refusal)
+    (laid (goal.at.returns c).After-layout_of-layout) (omega (arith, blocks, c.if-image-layout.false))
     c.done.ensures c.write_image.ensures

@@ -1,13 +1,12 @@
-use Prim.Native.Nat.{◌+◌, ◌-◌, ◌*◌, ◌/◌, ◌%◌, ◌^◌, ◌<◌}
+use Prim.Native.Nat.{◌+◌, ◌-◌, ◌*◌, ◌/◌, ◌%◌, ◌^◌}
 use lib.Bits.{bit_or}
 use lib.ListN.{length, get_or, set, length-set}
-use mathlib.Core.Path.{◌∙◌, sym, ap, ap₂, subst}
+use mathlib.Core.Path.{refl, ◌∙◌, sym, ap, ap₂}
 use native.Mathlib.Omega.{arith}
 use Rattle.bits_byte.specs.Lit.{lit}
-use Rattle.bits_append.proofs.Appending.{lit-length}
 use Rattle.parents_check.proofs.Rising.{good_parents}
 use Rattle.seal_r1.specs.Passes.{byte_place}
-use Rattle.seal_r0.proofs.Gapping.{gapping_first, gapping_low, gapping_other, gapping_same, gapping_last, last_bit_inside}
+use Rattle.seal_r0.proofs.Gapping.{gapping_first, gapping_low, gapping_other, gapping_same, gapping_last}
 use Rattle.seal_r0.proofs.write_r0.Goals as goal
 use Rattle.seal_r0.proofs.write_r0.Goals.{then-x-c, else-x-c}
 
@@ -21,7 +20,6 @@ overflow_sub-x c =
     let are = good_parents a.ps.now c.requires.in_bounds c.requires.ps_value in
     omega (
       arith,
-      c.wide-x.ensures,
       (gapping_low a.ps.now a.image.now c.loop-i.image a.zeros c.loop-i.c c.loop-i.byte c.loop-i.i are c.loop-i.invariant c.requires.ps_in_bounds
           c.loop-i-test.true).0,
     )
@@ -33,7 +31,6 @@ byte_place-to-requires c =
       bits_block_le_most_block = c.requires.zeros_le_most_block;
       c_bound = omega (
         arith,
-        c.wide-x.ensures,
         (gapping_low a.ps.now a.image.now c.loop-i.image a.zeros c.loop-i.c c.loop-i.byte c.loop-i.i are c.loop-i.invariant c.requires.ps_in_bounds
             c.loop-i-test.true).1,
       );
@@ -47,7 +44,6 @@ bounds-image-to c =
       arith,
       length-set c.loop-i.image c.byte_place-at.result c.loop-i.byte,
       c.byte_place-to.ensures,
-      c.wide-x.ensures,
       (gapping_low a.ps.now a.image.now c.loop-i.image a.zeros c.loop-i.c c.loop-i.byte c.loop-i.i are c.loop-i.invariant c.requires.ps_in_bounds
           c.loop-i-test.true).1,
       c.loop-i.invariant.kept,
@@ -58,33 +54,19 @@ pub loop-i-preserved : goal.loop-i-preserved
 loop-i-preserved c =
     let a = c.args in
     let are = good_parents a.ps.now c.requires.in_bounds c.requires.ps_value in
-    let x = c.wide-x.result - 1 in
+    let x = get_or a.ps.now c.loop-i.i 0 - 1 in
     elim c.if-x-c.branch [
       | then-x-c w ↦
           gapping_other a.ps.now a.image.now c.loop-i.image a.zeros c.loop-i.c c.loop-i.byte c.loop-i.i are c.loop-i.invariant c.requires.ps_in_bounds x
-          c.loop-i-test.true (ap (λ y. y - 1) c.wide-x.ensures) _ _ _
+          c.loop-i-test.true refl _ _ _
           (w.image-is ∙ ap (λ p. set c.loop-i.image p c.loop-i.byte) w.byte_place-at.ensures) w.c-is
           (ap (λ y. bit_or y (128 / 2 ^ (x % 8)))
           (w.byte-is ∙ ap₂ (λ s p. get_or s p 0) (sym w.image-is) (w.byte_place-to.ensures ∙ ap (λ j. byte_place a.zeros j) (sym w.c-is))))
       | else-x-c w ↦
           gapping_same a.ps.now a.image.now c.loop-i.image a.zeros c.loop-i.c c.loop-i.byte c.loop-i.i are c.loop-i.invariant c.requires.ps_in_bounds x
-          c.loop-i-test.true (ap (λ y. y - 1) c.wide-x.ensures) _ _ _ w.if-x-c.false w.image-is w.c-is
+          c.loop-i-test.true refl _ _ _ w.if-x-c.false w.image-is w.c-is
           (ap (λ y. bit_or y (128 / 2 ^ (x % 8))) w.byte-is)
     ]
-
-pub set_bit-requires : goal.set_bit-requires
-set_bit-requires c =
-    let a = c.args in
-    let kept = length-set c.loop-i.image c.byte_place-at-2.result c.loop-i.byte ∙ c.loop-i.invariant.kept in
-    subst (λ size. 8 * c.bits_at.result + length a.ps.now % 4000 < 8 * size) (sym kept)
-    (last_bit_inside a.zeros (length a.ps.now) c.bits_at.result (length a.image.now) c.bits_at.ensures c.requires.ps_in_bounds)
-
-pub shape_of-image : goal.shape_of-image
-shape_of-image c =
-    let a = c.args in
-    let put = set c.loop-i.image c.byte_place-at-2.result c.loop-i.byte in
-    ap length c.set_bit.ensures ∙ lit-length put (8 * c.bits_at.result + length a.ps.now % 4000)
-    ∙ length-set c.loop-i.image c.byte_place-at-2.result c.loop-i.byte ∙ c.loop-i.invariant.kept
 
 pub returns : goal.returns
 returns c =

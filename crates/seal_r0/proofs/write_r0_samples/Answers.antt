@@ -17,7 +17,7 @@ overflow_sub-place c =
     let a = c.args in
     let are = good_parents a.ps.now c.requires.in_bounds c.requires.ps_value in
     (following_place a.ps.now a.image.now c.loop-s.image a.r1_samples a.r0_samples c.loop-s.s are c.loop-s.invariant c.requires.r1samples_known (omega arith)
-    (omega arith) c.requires.ps_len_bound (omega arith) c.wide-place.result (c.wide-place.ensures ∙ c.word.ensures ∙ ap (word_at c.loop-s.image) c.sample_at.ensures)).0
+    (omega arith) c.requires.ps_len_bound (omega arith) c.word-place.result (c.word-place.ensures ∙ ap (word_at c.loop-s.image) c.sample_at.ensures)).0
 
 pub next_entry-next-requires : goal.next_entry-next-requires
 next_entry-next-requires c =
@@ -25,7 +25,7 @@ next_entry-next-requires c =
     let are = good_parents a.ps.now c.requires.in_bounds c.requires.ps_value in
     let f =
     following_place a.ps.now a.image.now c.loop-s.image a.r1_samples a.r0_samples c.loop-s.s are c.loop-s.invariant c.requires.r1samples_known (omega arith)
-    (omega arith) c.requires.ps_len_bound (omega arith) c.wide-place.result (c.wide-place.ensures ∙ c.word.ensures ∙ ap (word_at c.loop-s.image) c.sample_at.ensures) in
+    (omega arith) c.requires.ps_len_bound (omega arith) c.word-place.result (c.word-place.ensures ∙ ap (word_at c.loop-s.image) c.sample_at.ensures) in
     record { i_in_bounds = omega (arith, f.0, f.1); ps_len_bound = c.requires.ps_len_bound }
 
 pub overflow_cast-next : goal.overflow_cast-next
@@ -35,26 +35,22 @@ overflow_cast-next c =
     omega (
       arith,
       following_small a.ps.now a.image.now c.loop-s.image a.r1_samples a.r0_samples c.loop-s.s are c.loop-s.invariant c.requires.r1samples_known (omega arith)
-          (omega arith) c.requires.ps_len_bound (omega arith) c.wide-place.result
-          (c.wide-place.ensures ∙ c.word.ensures ∙ ap (word_at c.loop-s.image) c.sample_at.ensures) c.next_entry-next.result
+          (omega arith) c.requires.ps_len_bound (omega arith) c.word-place.result
+          (c.word-place.ensures ∙ ap (word_at c.loop-s.image) c.sample_at.ensures) c.next_entry-next.result
           c.next_entry-next.ensures,
     )
 
 pub loop-s-preserved : goal.loop-s-preserved
 loop-s-preserved c =
-    let more = c.loop-s-test.true in
     let apart = c.requires.m_bound in
     let fits = c.requires.m_in_bounds in
     let a = c.args in
     let are = good_parents a.ps.now c.requires.in_bounds c.requires.ps_value in
     following_next a.ps.now a.image.now c.loop-s.image a.r1_samples a.r0_samples c.loop-s.s are c.loop-s.invariant c.requires.r1samples_known (omega (arith, apart))
-    (omega (arith, fits)) c.requires.ps_len_bound (omega (arith, more)) c.wide-place.result
-    (c.wide-place.ensures ∙ c.word.ensures ∙ ap (word_at c.loop-s.image) c.sample_at.ensures)
+    (omega (arith, fits)) c.requires.ps_len_bound (omega arith) c.word-place.result
+    (c.word-place.ensures ∙ ap (word_at c.loop-s.image) c.sample_at.ensures)
     c.next_entry-next.result c.next_entry-next.ensures _
     (c.put_word.ensures ∙ ap (λ p. with_word c.loop-s.image p c.next_entry-next.result) c.sample_at-in-loop-s.ensures)
-
-pub shape_of-image : goal.shape_of-image
-shape_of-image c = c.loop-s.invariant.kept
 
 pub returns : goal.returns
 returns c =

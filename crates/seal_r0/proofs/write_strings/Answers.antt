@@ -3,36 +3,8 @@ use mathlib.Core.Path.{◌≡◌, sym, subst}
 use native.Mathlib.Omega.{arith}
 use Rattle.theory.specs.Stages.{blocks_of_samples}
 use Rattle.seal_r1.specs.Passes.{Blank}
-use Rattle.seal_r0.proofs.Running.{runs-few, blank_ends, blank_first, blank_gaps, known, blank_second, all_ran}
+use Rattle.seal_r0.proofs.Running.{runs-few, known, blank_second, all_ran}
 use Rattle.seal_r0.proofs.write_strings.Goals as goal
-
-pub write_r1-m-requires : goal.write_r1-m-requires
-write_r1-m-requires c =
-    let a = c.args in
-    let r = c.requires in record {
-      in_bounds = r.some;
-      ps_len_bound = r.most;
-      ps_value = r.good;
-      samples_le_most_block = omega (arith, r.is_first, r.most);
-      ps_bound = omega (arith, r.is_first);
-      ps_in_bounds = omega (arith, r.is_first, r.room);
-      blank = blank_ends a.ps.now a.image.now a.layout.r0_block a.layout.r1_samples a.layout.r0_samples r;
-      blank_2 = blank_first a.ps.now a.image.now a.layout.r0_block a.layout.r1_samples a.layout.r0_samples r;
-    }
-
-pub write_r0-requires : goal.write_r0-requires
-write_r0-requires c =
-    let a = c.args in
-    let r = c.requires in
-    let ends = c.write_r1-m in
-    let kept : length ends.new.image ≡ length a.image.now = ends.auto.image in record {
-      in_bounds = r.some;
-      ps_len_bound = r.most;
-      ps_value = r.good;
-      zeros_le_most_block = omega (arith, r.is_r0, r.most);
-      ps_in_bounds = omega (arith, r.is_r0, r.room, kept);
-      blank = blank_gaps a.ps.now a.image.now a.layout.r0_block a.layout.r1_samples a.layout.r0_samples r _ ends.ensures.1;
-    }
 
 pub write_r0_samples-requires : goal.write_r0_samples-requires
 write_r0_samples-requires c =

@@ -1,18 +1,18 @@
 use Prim.Native.Nat.{◌+◌, ◌-◌, ◌*◌, ◌/◌, ◌%◌}
-use lib.ListN.{length, set, length-set}
+use lib.ListN.{set, length-set}
 use mathlib.Core.Path.{◌≡◌, ◌∙◌, sym, ap}
 use native.Mathlib.Omega.{arith}
 use Rattle.theory.specs.Layout.{sample_place}
 use Rattle.image_words.specs.Words.{with_word}
 use Rattle.seal_r1.specs.Passes.{byte_place, byte_marked}
-use Rattle.seal_r1.proofs.Ending.{place-few, byte_plain, byte_sample, byte_length}
+use Rattle.seal_r1.proofs.Ending.{place-few, byte_plain, byte_sample}
 use Rattle.seal_r1.proofs.write_r1_byte.Goals as goal
 use Rattle.seal_r1.proofs.write_r1_byte.Goals.{After-put_word}
 
 pub returns-then-k-ones : goal.returns-then-k-ones
 returns-then-k-ones c =
     let a = c.args in
-    let ones = c.wide-ones.ensures ∙ c.ones_in_byte.ensures in (
+    let ones = c.ones_in_byte-ones.ensures in (
       ap (λ n. a.k + n) ones,
       ap (λ p. set a.image.now (p + a.b % 500) a.x) c.bits_at.ensures ∙ sym (byte_plain a.image.now a.samples a.b a.x a.k (omega (arith, ones))),
     )
@@ -25,7 +25,7 @@ overflow_add-b-2 c =
 pub put_word-requires : goal.put_word-requires
 put_word-requires c =
     let a = c.args in
-    let ones = c.wide-ones.ensures ∙ c.ones_in_byte.ensures in
+    let ones = c.ones_in_byte-ones.ensures in
     omega (arith, ones, length-set a.image.now (c.bits_at.result + a.b % 500) a.x)
 
 -- the image once the byte and its sample are in it
@@ -43,20 +43,14 @@ marked c =
     let placed = counted.before.before in
     let a = c.args in
     let image = a.image.now in
-    let ones = c.wide-ones.ensures ∙ c.ones_in_byte.ensures in
+    let ones = c.ones_in_byte-ones.ensures in
     ap (λ p. with_word (set image (p + a.b % 500) a.x) c.sample_at.result (8 * a.b + c.select_in_byte-place.result)) c.bits_at.ensures
     ∙ ap (λ q. with_word (set image (byte_place 1 a.b) a.x) q (8 * a.b + c.select_in_byte-place.result)) c.sample_at.ensures
     ∙ ap (λ v. with_word (set image (byte_place 1 a.b) a.x) (sample_place a.samples ((a.k + 63) / 64)) (8 * a.b + v)) c.select_in_byte-place.ensures
     ∙ sym (byte_sample image a.samples a.b a.x a.k (omega (arith, ones)))
 
-pub shape_of-image : goal.shape_of-image
-shape_of-image c =
-    let a = c.args in
-    ap length (c.put_word.ensures ∙ marked (goal.at.shape_of-image c).After-put_word)
-    ∙ byte_length a.image.now a.samples a.b a.x a.k c.requires.x_in_bounds
-
 pub returns : goal.returns
 returns c =
     let a = c.args in
-    let ones = c.wide-ones.ensures ∙ c.ones_in_byte.ensures in
+    let ones = c.ones_in_byte-ones.ensures in
     (ap (λ n. a.k + n) ones, c.put_word.ensures ∙ marked (goal.at.returns c).After-put_word)

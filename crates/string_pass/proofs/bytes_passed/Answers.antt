@@ -3,7 +3,7 @@ use Prim.Native.Nat.{ℕ, ◌+◌, ◌-◌, ◌*◌, ◌/◌, ◌%◌, ◌^◌, 
 use native.Mathlib.Nat.{zero-add}
 use native.Mathlib.Omega.{arith}
 use lib.Bits.{and_mask}
-use lib.Count.{count_trailing_zeros, ones-le}
+use lib.Count.{count_trailing_zeros}
 use Rattle.meaning.specs.Strings.{ones}
 use Rattle.string_pass.specs.Falls.{fall}
 use Rattle.bits_lanes.specs.Lanes.{word_bits, each, ones_in, ones_earlier}
@@ -34,9 +34,6 @@ sums-fit : (w : ℕ) → each ones_in w 8 + ones_earlier 0 w 8 < 2 ^ 64
 unfolding each
 sums-fit w = omega (arith, earlier_le w 8 0 (omega arith), each-le ones_in (λ x. 8) (λ x h. byte_few x) w 8)
 
-pub overflow_cast-result : goal.overflow_cast-result
-overflow_cast-result c = omega (arith, ones-le 64 c.args.word c.ranges.word.fits)
-
 pub returns-then-pending-ge64 : goal.returns-then-pending-ge64
 returns-then-pending-ge64 c =
     let w = c.args.word in
@@ -45,9 +42,6 @@ returns-then-pending-ge64 c =
       falls = omega (arith, c.if-pending-ge64.true, fall-le (word_bits w 8), word-length 8 w);
       opened = word_ones 8 w c.ranges.word.fits;
     }
-
-pub stay_of_each-stay-requires : goal.stay_of_each-stay-requires
-stay_of_each-stay-requires c = record { earlier_value = c.count_lanes-ones.ensures.1; pending_bound = c.if-pending-ge64.false }
 
 pub overflow_add-result : goal.overflow_add-result
 overflow_add-result c =
@@ -78,15 +72,6 @@ fewer : (c : goal.Else-stay) → count_trailing_zeros 64 (lost c.stay_of_each-st
 fewer c =
     let s = c.stay_of_each-stay.result in
     zeros-lt 64 (lost s) (omega (arith, c.if-stay.false, stay-most c)) (omega arith)
-
-pub overflow_cast-result-2 : goal.overflow_cast-result-2
-overflow_cast-result-2 c = omega (arith, fewer (goal.at.overflow_cast-result-2 c).Else-stay)
-
-pub overflow_mul-result : goal.overflow_mul-result
-overflow_mul-result c = omega (arith, fewer (goal.at.overflow_mul-result c).Else-stay)
-
-pub overflow_cast-result-3 : goal.overflow_cast-result-3
-overflow_cast-result-3 c = omega (arith, fewer (goal.at.overflow_cast-result-3 c).Else-stay)
 
 pub overflow_shr-result-2 : goal.overflow_shr-result-2
 overflow_shr-result-2 c = omega (arith, fewer (goal.at.overflow_shr-result-2 c).Else-stay)

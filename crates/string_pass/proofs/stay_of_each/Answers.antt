@@ -28,10 +28,7 @@ first c = ap (λ e. c.args.pending * 72340172838076673 + 2 * e + 521076193995996
 
 pub loop-i-init : goal.loop-i-init
 unfolding stays stay
-loop-i-init c = (omega arith, first (goal.at.loop-i-init c).Start, refl)
-
-pub overflow_mul-height : goal.overflow_mul-height
-overflow_mul-height c = omega (arith, c.requires.pending_bound)
+loop-i-init c = (first (goal.at.loop-i-init c).Start, refl)
 
 pub overflow_mul-height-2 : goal.overflow_mul-height-2
 overflow_mul-height-2 c = omega (arith, c.requires.earlier_value, few c.args.word)
@@ -48,7 +45,7 @@ unfolding each
 some c =
     let l = c.loop-i in
     let a = c.args in
-    omega (arith, l.invariant.1, heights-some l.i (omega (arith, c.loop-i-test.true)) a.word 8 (128 + a.pending) (omega arith))
+    omega (arith, l.invariant.0, heights-some l.i (omega (arith, c.loop-i-test.true)) a.word 8 (128 + a.pending) (omega arith))
 
 next : (c : goal.After-bit_of_each) →
     c.loop-i.height - 72340172838076673 + 2 * c.bit_of_each.result
@@ -59,7 +56,7 @@ next c =
     let a = c.args in
     let h = 128 + a.pending in
     let step : l.height - 72340172838076673 + 2 * c.bit_of_each.result ≡ heights (suc l.i) h a.word 8 =
-    omega (arith, l.invariant.1, some c.before, c.bit_of_each.ensures, next-heights l.i (omega (arith, c.loop-i-test.true)) a.word 8 h (omega arith)) in
+    omega (arith, l.invariant.0, some c.before, c.bit_of_each.ensures, next-heights l.i (omega (arith, c.loop-i-test.true)) a.word 8 h (omega arith)) in
     step ∙ ap (λ j. heights j h a.word 8) (let e : suc l.i ≡ l.i + 1 = omega arith in e)
 
 pub overflow_sub-height : goal.overflow_sub-height
@@ -80,15 +77,8 @@ loop-i-preserved c =
     let l = c.loop-i in
     let a = c.args in
     let h = 128 + a.pending in (
-      omega (arith, c.loop-i-test.true),
       next (goal.at.loop-i-preserved c).After-bit_of_each,
-      ap₂ bit_and l.invariant.2 (next (goal.at.loop-i-preserved c).After-bit_of_each ∙ ap (λ j. heights j h a.word 8) (let e : l.i + 1 ≡ suc l.i = omega arith in e))
+      ap₂ bit_and l.invariant.1 (next (goal.at.loop-i-preserved c).After-bit_of_each ∙ ap (λ j. heights j h a.word 8) (let e : l.i + 1 ≡ suc l.i = omega arith in e))
           ∙ next-stays l.i a.word 8 h (omega (arith, c.loop-i-test.true)) (omega (arith, c.requires.pending_bound))
           ∙ ap (λ j. stays j h a.word 8) (let e : suc l.i ≡ l.i + 1 = omega arith in e),
     )
-
-pub returns : goal.returns
-returns c =
-    let l = c.loop-i in
-    let a = c.args in
-    l.invariant.2 ∙ ap (λ j. stays j (128 + a.pending) a.word 8) (let e : l.i ≡ 8 = omega (arith, l.invariant.0, c.loop-i-test.false) in e)

@@ -1,6 +1,7 @@
 use mathlib.Core.Path.{◌≡◌, sym, ap, ap₂, ◌∙◌}
 use Prim.Native.Nat.{suc, ◌+◌, ◌-◌, ◌*◌, ◌^◌, ◌<◌}
 use native.Mathlib.Omega.{arith}
+use Rattle.std.proofs.Common.{rules}
 use lib.ListN.{get_or}
 use lib.Pow.{pow_mono}
 use Rattle.theory.specs.Layout.{AreBytes}
@@ -14,7 +15,7 @@ pub loop-i-init : goal.loop-i-init
 unfolding little
 loop-i-init c =
     let a = c.args in
-    (c.requires.at_le_end, omega arith, ap (little a.b.now a.end) (let e : 0 ≡ a.end - a.end = omega arith in e))
+    (c.requires.at_le_end, ap (little a.b.now a.end) (let e : 0 ≡ a.end - a.end = omega arith in e))
 
 -- there is room for a byte more
 small : (c : goal.In-loop-i) → c.loop-i.word < 2 ^ 48
@@ -23,16 +24,16 @@ small c =
     let a = c.args in
     omega (
       arith,
-      l.invariant.2,
+      l.invariant.1,
       little-lt a.b.now l.i (a.end - l.i),
-      pow_mono {i = 8 * (a.end - l.i)} {j = 48} (omega (arith, c.loop-i-test.true, c.requires.end_bound, l.invariant.1)),
+      pow_mono {i = 8 * (a.end - l.i)} {j = 48} (omega (arith, c.loop-i-test.true, c.requires.end_bound)),
     )
 
 pub overflow_mul-word : goal.overflow_mul-word
 overflow_mul-word c = omega (arith, small (goal.at.overflow_mul-word c).In-loop-i)
 
 pub overflow_add-word : goal.overflow_add-word
-overflow_add-word c = omega (arith, small (goal.at.overflow_add-word c).In-loop-i, c.byte_to_u64.ensures.1)
+overflow_add-word c = omega (arith, small (goal.at.overflow_add-word c).In-loop-i)
 
 pub loop-i-preserved : goal.loop-i-preserved
 unfolding little
@@ -41,19 +42,12 @@ loop-i-preserved c =
     let a = c.args in
     let b = a.b.now in
     let i = l.i - 1 in
-    let are : AreBytes b = λ j h. omega (arith, c.shared_slice_known-1.given j) in
+    let are : AreBytes b = λ j h. search rules in
     let up : suc i ≡ l.i = omega (arith, c.loop-i-test.true) in
     let same : little b (suc i) (a.end - l.i) * 256 + get_or b i 0 ≡ little b i (suc (a.end - l.i)) =
     ap (λ x. little b (suc i) (a.end - l.i) * 256 + x) (sym (number_of_byte b are i)) in (
       omega (arith, c.loop-i-test.true),
-      omega (arith, l.invariant.1),
-      ap₂ (λ v x. v * 256 + x) (l.invariant.2 ∙ ap (λ j. little b j (a.end - l.i)) (sym up)) c.byte_to_u64.ensures.0
+      ap₂ (λ v x. v * 256 + x) (l.invariant.1 ∙ ap (λ j. little b j (a.end - l.i)) (sym up)) c.from.ensures
           ∙ same
-          ∙ ap (little b i) (let e : suc (a.end - l.i) ≡ a.end - i = omega (arith, c.loop-i-test.true, l.invariant.1) in e),
+          ∙ ap (little b i) (let e : suc (a.end - l.i) ≡ a.end - i = omega (arith, c.loop-i-test.true) in e),
     )
-
-pub returns : goal.returns
-returns c =
-    let l = c.loop-i in
-    let a = c.args in
-    l.invariant.2 ∙ ap (λ j. little a.b.now j (a.end - j)) (let e : l.i ≡ a.at = omega (arith, l.invariant.0, c.loop-i-test.false) in e)

@@ -4,7 +4,7 @@ use Prim.Native.Nat.{◌+◌, ◌-◌, ◌*◌, ◌/◌, ◌≤◌}
 use native.Mathlib.Omega.{arith}
 use Rattle.theory.specs.Layout.{AreBytes}
 use Rattle.string_skip.specs.Strides.{ReadOn}
-use Rattle.string_skip.proofs.Whole.{none_yet, more, more_left, Told, told, and_on}
+use Rattle.string_skip.proofs.Whole.{more, more_left, Told, told}
 use Rattle.string_skip.proofs.skip_bytes.Goals as goal
 use Rattle.string_skip.proofs.skip_bytes.Goals.{Else-r-passed}
 
@@ -38,33 +38,11 @@ on c =
       more _ _ _ c.loop-r.r c.loop-r.invariant p.bytes p.opened here t.opened t.falls c.if-r-passed.false,
     )
 
-pub loop-r-init : goal.loop-r-init
-loop-r-init c = none_yet _ _ _ c.requires.stands
-
-pub overflow_add-r-in-loop-r : goal.overflow_add-r-in-loop-r
-overflow_add-r-in-loop-r c = omega (arith, c.bytes_passed-passed.ensures.few)
-
-pub overflow_mul-r-in-loop-r : goal.overflow_mul-r-in-loop-r
-overflow_mul-r-in-loop-r c = omega (arith, c.bytes_passed-passed.ensures.few)
-
 pub overflow_sub-r : goal.overflow_sub-r
 overflow_sub-r c = omega (arith, (on (goal.at.overflow_sub-r c).Else-r-passed).0)
 
 pub returns-then-passed-lt8 : goal.returns-then-passed-lt8
 returns-then-passed-lt8 c = (on (goal.at.returns-then-passed-lt8 c).Else-r-passed).1
 
-pub loop-r-smaller : goal.loop-r-smaller
-loop-r-smaller c = omega (arith, c.if-passed-lt8.false)
-
 pub loop-r-preserved : goal.loop-r-preserved
 loop-r-preserved c = (on (goal.at.loop-r-preserved c).Else-r-passed).1
-
-pub skip_last-requires : goal.skip_last-requires
-skip_last-requires c =
-    record { stands = c.loop-r.invariant.stands; n_bound = omega (arith, c.loop-r-test.false); n_bound_2 = omega arith; n_bound_3 = omega arith }
-
-pub returns-then-r-n : goal.returns-then-r-n
-returns-then-r-n c = and_on _ _ c.loop-r.invariant c.skip_last.ensures
-
-pub returns : goal.returns
-returns c = c.loop-r.invariant

@@ -39,15 +39,6 @@ on c =
       more a.b.now a.n a.from a.from first c.if-passed-left.bytes r.opened here t.1.opened t.1.falls c.if-from-passed.false,
     )
 
-pub returns-then-from-passed : goal.returns-then-from-passed
-returns-then-from-passed c = none_yet _ _ _ c.requires.stands
-
-pub overflow_add-result : goal.overflow_add-result
-overflow_add-result c = omega (arith, (known (goal.at.overflow_add-result c).Joined-passed-left).0)
-
-pub overflow_mul-result-2 : goal.overflow_mul-result-2
-overflow_mul-result-2 c = omega (arith, (known (goal.at.overflow_mul-result-2 c).Joined-passed-left).0)
-
 pub overflow_sub-result : goal.overflow_sub-result
 overflow_sub-result c = omega (arith, (on (goal.at.overflow_sub-result c).Joined-passed-left).0)
 

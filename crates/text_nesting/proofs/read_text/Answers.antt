@@ -1,10 +1,10 @@
-use Rattle.std.proofs.Common.{◌+◌}
+use Rattle.std.proofs.Common.{◌≡◌, ◌+◌, Err, rules}
 use Rattle.meaning.specs.Text.{inside, over}
-use Rattle.text_nesting.specs.declared.Found.TheVariants.{Broken}
+use Rattle.text_nesting.specs.declared.TextFault.TheVariants.{Broken}
 use Rattle.text_nesting.specs.Nesting.{Same, Ready, Stops}
-use Rattle.text_nesting.proofs.Laws.{then, no_opening, no_end, ends, ready_on, text_stops, text_broken, text-over}
+use Rattle.text_nesting.proofs.Laws.{then, no_opening, no_end, ends, ready_on, text_stops, text-over}
 use Rattle.text_nesting.proofs.read_text.Goals as goal
-use Rattle.text_nesting.proofs.read_text.Goals.{After-past_blanks-first, After-past_blanks-after, then-first-text+else-text-first-eq-OPENING, else-first-text}
+use Rattle.text_nesting.proofs.read_text.Goals.{After-past_blanks-first, After-past_blanks-after, else-first-text-via-then-first-text+else-text-first-eq-OPENING, else-first-text-via-else-first-text}
 
 -- the blanks in front
 first : (c : goal.After-past_blanks-first)
@@ -12,29 +12,27 @@ first : (c : goal.After-past_blanks-first)
     Same a.text.now 0 c.past_blanks-first.result (inside 0 64) (inside 0 64) a.levels.now a.levels.now
 first c = c.past_blanks-first.ensures.same (inside 0 64) c.args.levels.now tt
 
-pub returns-in_default : goal.returns-in_default
-returns-in_default c =
-    let a = c.args in
-    text_stops a.text.now a.levels.now a.levels.now _ c.past_blanks-first.result c.node-found.result c.in_default.not-Over
-    (first (goal.at.returns-in_default c).After-past_blanks-first)
-    c.node-found.ensures
+pub returns-in_err-end : goal.returns-in_err-end
+returns-in_err-end c =
+    let e : c.from_residual.result ≡ Err c.in_err-end.field-0.0 = search rules in
+    rw e (text_stops _ (first (goal.at.returns-in_err-end c).After-past_blanks-first) _ c.in_err-end.ensures)
 
 -- the node, and the blanks after it
 after : (c : goal.After-past_blanks-after)
     → let a = c.args in
-    let levels = c.node-found.new.levels in
+    let levels = c.node.new.levels in
     Ready a.text.now c.past_blanks-after.result levels × Same a.text.now 0 c.past_blanks-after.result (inside 0 64) over a.levels.now levels
 after c =
-    let r = c.in-Over.ensures in
+    let r = c.in_ok-end.ensures in
     let e = c.past_blanks-after.ensures in
-    let same = e.same over c.node-found.new.levels tt in
+    let same = e.same over c.node.new.levels tt in
     (ready_on r.1 same.up e.within, then (c.past_blanks-first.ensures.same (inside 0 64) c.args.levels.now tt) (then r.2 same))
 
 pub returns-then-after-text : goal.returns-then-after-text
 returns-then-after-text c =
     let h = c.if-after-text.true in
     let b = after (goal.at.returns-then-after-text c).After-past_blanks-after in
-    text_broken b.1 (c.past_blanks-after.result + 1) (no_end _ _ h (c.past_blanks-after.ensures.here h))
+    text_stops c.args.levels.now b.1 (Broken (c.past_blanks-after.result + 1)) (no_end _ _ h (c.past_blanks-after.ensures.here h))
 
 pub returns-then-text-first-eq-OPENING : goal.returns-then-text-first-eq-OPENING
 returns-then-text-first-eq-OPENING c =
@@ -46,10 +44,10 @@ returns c =
     let text = c.args.text.now in
     let at = c.past_blanks-first.result in
     let e = c.past_blanks-first.ensures in
-    let x : Stops text at (inside 0 64) (Broken (at + 1)) = elim c.if-first-text.branch [
-      | then-first-text+else-text-first-eq-OPENING w ↦
+    let x : Stops text at (inside 0 64) (Broken (at + 1)) = elim c.else-first-text.branch [
+      | else-first-text-via-then-first-text+else-text-first-eq-OPENING w ↦
           let h = w.if-first-text.true in
           no_opening text at h (e.here h) 64 w.if-text-first-eq-OPENING.false
-      | else-first-text w ↦ ends text at _ _ w.if-first-text.false e.within
+      | else-first-text-via-else-first-text w ↦ ends text at _ _ w.if-first-text.false e.within
     ] in
-    text_broken (e.same (inside 0 64) c.args.levels.now tt) (at + 1) x
+    text_stops c.args.levels.now (e.same (inside 0 64) c.args.levels.now tt) (Broken (at + 1)) x

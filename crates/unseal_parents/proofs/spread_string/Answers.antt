@@ -1,6 +1,6 @@
 use mathlib.Core.Path.{◌≡◌, ap, ◌∙◌}
 use mathlib.Core.List.{◌++◌}
-use Prim.Native.Nat.{◌+◌, ◌*◌, ◌%◌}
+use Prim.Native.Nat.{◌+◌, ◌*◌, ◌/◌, ◌%◌}
 use native.Mathlib.Omega.{arith}
 use lib.ListN.{drop, length}
 use Rattle.meaning.specs.Bytes.{bits_from}
@@ -13,18 +13,8 @@ use Rattle.unseal_parents.proofs.spread_string.Goals as goal
 
 pub loop-j-init : goal.loop-j-init
 loop-j-init c =
-    let a = c.args in
-    let l = length-string_in a.b.now 1 0 a.n in
-    (omega arith, up_first (string_in a.b.now 1 0 a.n) 0 a.p a.out.now (omega arith) (omega arith))
-
-pub overflow_add-j : goal.overflow_add-j
-overflow_add-j c = omega arith
-
-pub bits_at-requires : goal.bits_at-requires
-bits_at-requires c = omega arith
-
-pub overflow_mul-j : goal.overflow_mul-j
-overflow_mul-j c = omega arith
+    let l = length-string_in c.args.b.now 1 0 c.args.n in
+    up_first _ 0 _ _ (omega arith) (omega arith)
 
 pub spread_block-from-requires : goal.spread_block-from-requires
 spread_block-from-requires c =
@@ -39,15 +29,9 @@ spread_block-from-requires c =
     let t = 4000 * (j + 1) in record {
       n_bound = omega arith;
       at_in_bounds = omega arith;
-      n_bound_2 = omega (arith, up-behind all new 0 a.p a.out.now (4000 * j) 4000 t (omega arith) e (omega arith) o.out o.from o.invariant.1);
-      n_in_bounds = up_room all new 0 a.p a.out.now (4000 * j) 4000 t (omega arith) e (omega arith) o.out o.from o.invariant.1;
+      n_bound_2 = omega (arith, up-behind all new 0 a.p a.out.now (4000 * j) 4000 t (omega arith) e (omega arith) o.out o.from o.invariant);
+      n_in_bounds = up_room all new 0 a.p a.out.now (4000 * j) 4000 t (omega arith) e (omega arith) o.out o.from o.invariant;
     }
-
-pub overflow_add-j-in-loop-j : goal.overflow_add-j-in-loop-j
-overflow_add-j-in-loop-j c = omega arith
-
-pub loop-j-smaller : goal.loop-j-smaller
-loop-j-smaller c = omega arith
 
 pub loop-j-preserved : goal.loop-j-preserved
 loop-j-preserved c =
@@ -59,40 +43,28 @@ loop-j-preserved c =
     let all = string_in b 1 0 a.n in
     let new = bits_from b (8 * c.bits_at.result) 4000 in
     let l = length-string_in b 1 0 a.n in
-    let e = block_piece b 1 a.n j 4000 c.bits_at.result c.bits_at.ensures (omega arith) (omega arith) in (
-      omega arith,
-      up_next all new 0 a.p a.out.now (4000 * j) 4000 (4000 * (j + 1)) (omega arith) e (omega arith) o.out o.from
-          o.invariant.1 _ _ f.auto.out (spread_at new (4000 * j) _ _ _ _ f.ensures),
-    )
-
-pub overflow_add-j-2 : goal.overflow_add-j-2
-overflow_add-j-2 c = omega arith
-
-pub bits_at-requires-2 : goal.bits_at-requires-2
-bits_at-requires-2 c = omega arith
-
-pub overflow_mul-j-2 : goal.overflow_mul-j-2
-overflow_mul-j-2 c = omega arith
+    let e = block_piece b 1 a.n j 4000 c.bits_at.result c.bits_at.ensures (omega arith) (omega arith) in
+    up_next all new 0 a.p a.out.now (4000 * j) 4000 (4000 * (j + 1)) (omega arith) e (omega arith) o.out o.from
+    o.invariant _ _ f.auto.out (spread_at new (4000 * j) _ _ _ _ f.ensures)
 
 pub spread_block-requires : goal.spread_block-requires
 spread_block-requires c =
     let a = c.args in
     let o = c.loop-j in
     let b = a.b.now in
-    let j = o.j in
+    let j = a.n / 4000 in
     let r = a.n % 4000 in
     let all = string_in b 1 0 a.n in
     let new = bits_from b (8 * c.bits_at-2.result) r in
     let l = length-string_in b 1 0 a.n in
-    let e = block_piece b 1 a.n j r c.bits_at-2.result c.bits_at-2.ensures (omega arith) (omega arith) in record {
+    let e = block_piece b 1 a.n j r c.bits_at-2.result c.bits_at-2.ensures (omega arith) (omega arith) in
+    let last : o.j ≡ j = omega arith in
+    let up = rw last at o.invariant in record {
       n_bound = omega arith;
       at_in_bounds = omega arith;
-      n_bound_2 = omega (arith, up-behind all new 0 a.p a.out.now (4000 * j) r a.n (omega arith) e (omega arith) o.out o.from o.invariant.1);
-      n_in_bounds = up_room all new 0 a.p a.out.now (4000 * j) r a.n (omega arith) e (omega arith) o.out o.from o.invariant.1;
+      n_bound_2 = omega (arith, up-behind all new 0 a.p a.out.now (4000 * j) r a.n (omega arith) e (omega arith) o.out o.from up);
+      n_in_bounds = up_room all new 0 a.p a.out.now (4000 * j) r a.n (omega arith) e (omega arith) o.out o.from up;
     }
-
-pub shape_of-out : goal.shape_of-out
-shape_of-out c = c.spread_block.auto.out ∙ c.loop-j.invariant.1.size
 
 pub returns : goal.returns
 returns c =
@@ -100,13 +72,14 @@ returns c =
     let a = c.args in
     let o = c.loop-j in
     let b = a.b.now in
-    let j = o.j in
+    let j = a.n / 4000 in
     let r = a.n % 4000 in
     let all = string_in b 1 0 a.n in
     let new = bits_from b (8 * c.bits_at-2.result) r in
     let l = length-string_in b 1 0 a.n in
     let e = block_piece b 1 a.n j r c.bits_at-2.result c.bits_at-2.ensures (omega arith) (omega arith) in
+    let last : o.j ≡ j = omega arith in
     (up_done all 0 a.p a.out.now a.n _ _ (omega arith)
     (up_next all new 0 a.p a.out.now (4000 * j) r a.n (omega arith) e (omega arith) o.out o.from
-    o.invariant.1 _ _ f.auto.out (spread_at new (4000 * j) _ _ _ _ f.ensures))).made
+    (rw last at o.invariant) _ _ f.auto.out (spread_at new (4000 * j) _ _ _ _ f.ensures))).made
     ∙ ap (λ n. spread all (drop a.p a.out.now) ++ drop n a.out.now) (let e : 0 + length all ≡ a.n = omega arith in e)

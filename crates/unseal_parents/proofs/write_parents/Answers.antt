@@ -9,41 +9,35 @@ use Rattle.theory.proofs.TreeImages.{length-string_in}
 use Rattle.unseal_parents.proofs.Weaving.{lasts, parents-written}
 use Rattle.unseal_parents.proofs.write_parents.Goals as goal
 
-pub write_string_positions-root-requires : goal.write_string_positions-root-requires
-write_string_positions-root-requires c =
-    let a = c.args in
-    let h = lasts a.b.now a.zeros a.n c.requires.in_runs in
-    record { n_bound = omega arith; bits_block_le_most_block = omega arith; n_in_bounds = omega arith; n_bound_2 = omega arith; n_in_bounds_2 = omega arith }
+pub write_string_positions-root-requires-clause-n_bound_2 : goal.write_string_positions-root-requires-clause-n_bound_2
+write_string_positions-root-requires-clause-n_bound_2 c =
+    let h = lasts c.args.b.now c.args.zeros c.args.n c.requires.in_runs in
+    omega arith
 
 pub overflow_sub-root : goal.overflow_sub-root
 overflow_sub-root c =
-    let a = c.args in
-    let h = lasts a.b.now a.zeros a.n c.requires.in_runs in
+    let h = lasts c.args.b.now c.args.zeros c.args.n c.requires.in_runs in
     omega (arith, c.write_string_positions-root.ensures.count)
 
 pub bounds-out-root : goal.bounds-out-root
 bounds-out-root c =
-    let a = c.args in
-    let h = lasts a.b.now a.zeros a.n c.requires.in_runs in
-    omega (arith, c.write_string_positions-root.ensures.count, c.write_string_positions-root.auto.out)
+    let h = lasts c.args.b.now c.args.zeros c.args.n c.requires.in_runs in
+    omega (arith, c.write_string_positions-root.ensures.count)
 
 pub overflow_sub-n : goal.overflow_sub-n
 overflow_sub-n c =
-    let a = c.args in
-    let h = lasts a.b.now a.zeros a.n c.requires.in_runs in
+    let h = lasts c.args.b.now c.args.zeros c.args.n c.requires.in_runs in
     omega arith
 
-pub spread_string-requires : goal.spread_string-requires
-spread_string-requires c =
-    let a = c.args in
-    let f = c.write_string_positions-root in
-    let h = lasts a.b.now a.zeros a.n c.requires.in_runs in
-    record { n_bound = omega arith; n_in_bounds = omega arith; n_bound_2 = omega (arith, f.ensures.count); n_in_bounds_2 = simp length-set (omega (arith, f.ensures.count, f.auto.out)) }
+pub spread_string-requires-clause-n_bound_2 : goal.spread_string-requires-clause-n_bound_2
+spread_string-requires-clause-n_bound_2 c =
+    let h = lasts c.args.b.now c.args.zeros c.args.n c.requires.in_runs in
+    omega (arith, c.write_string_positions-root.ensures.count)
 
-pub shape_of-out : goal.shape_of-out
-shape_of-out c =
-    let f = c.write_string_positions-root in
-    c.spread_string.auto.out ∙ simp length-set f.auto.out
+pub spread_string-requires-clause-n_in_bounds_2 : goal.spread_string-requires-clause-n_in_bounds_2
+spread_string-requires-clause-n_in_bounds_2 c =
+    let h = lasts c.args.b.now c.args.zeros c.args.n c.requires.in_runs in
+    simp length-set (omega (arith, c.write_string_positions-root.ensures.count))
 
 pub returns : goal.returns
 returns c =
