@@ -52,29 +52,18 @@ impl TryFrom<i32> for Kind {
 }
 
 // A node: no number below 0 is one, and nor is 0.
-pub fn number(x: i32) -> u32
+pub fn number(x: i64) -> u64
     ensures { result ≡ number_of x }
 {
-    u32::try_from(x).unwrap_or(0)
+    u64::try_from(x).unwrap_or(0)
 }
 
 // A child's and a sibling's place is any number, and the other kinds take 0; metres are asked for
 // only where there are some.
-fn argument_allowed(kind: Kind, z: i32, metres: bool) -> bool
+fn argument_allowed(kind: Kind, z: i64, metres: bool) -> bool
     ensures { result ≡ allowed_kind metres (some (asked_by kind)) z }
 {
-    match kind {
-        Kind::Child | Kind::Sibling => true,
-        Kind::Metres => metres && z == 0,
-        Kind::Parent
-        | Kind::FirstChild
-        | Kind::LastChild
-        | Kind::NextSibling
-        | Kind::PreviousSibling
-        | Kind::Degree
-        | Kind::Rank
-        | Kind::Leaf => z == 0,
-    }
+    matches!(kind, Kind::Child | Kind::Sibling) || z == 0 && (metres || kind != Kind::Metres)
 }
 
 // Is question number i, from 0, allowed in a tree of n nodes, with metres or without?
@@ -83,17 +72,17 @@ fn allowed_at(asked: &[i32], i: usize, n: u32, metres: bool) -> bool
     requires { 3 * i + 3 ≤ length asked.now }
     ensures { result ≡ allowed n metres (question_at asked.now i) }
 {
-    let node = number(asked[3 * i + 1]);
+    let node = number(i64::from(asked[3 * i + 1]));
     if node < 1 {
         return false;
     }
-    if n < node {
+    if u64::from(n) < node {
         return false;
     }
     let Ok(kind) = Kind::try_from(asked[3 * i]) else {
         return false;
     };
-    argument_allowed(kind, asked[3 * i + 2], metres)
+    argument_allowed(kind, i64::from(asked[3 * i + 2]), metres)
 }
 
 // The lowest question, from 1, that is not allowed.

@@ -23,8 +23,8 @@ fn answer_at(b: &[u8], image: Layout, asked: &[i32], i: usize) -> u32
     let Ok(kind) = Kind::try_from(asked[3 * i]) else {
         unreachable!();
     };
-    let node = number(asked[3 * i + 1]);
-    answer_kind(b, image, kind, node as usize, asked[3 * i + 2])
+    let node = number(i64::from(asked[3 * i + 1]));
+    answer_kind(b, image, kind, node as usize, i64::from(asked[3 * i + 2]))
 }
 
 // Writes the answers to the questions, each of which is allowed.

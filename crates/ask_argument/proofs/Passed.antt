@@ -2,10 +2,10 @@
 use mathlib.Core.Path.{◌≡◌, ap}
 use Prim.Native.Nat.{ℕ}
 use lib.IntN.{ℤ}
-use mir.Syntax.{w32}
+use mir.Syntax.{w64}
 use mir.Val.{SFits, to_z, of_z}
 use mir.Facts.{to_z-of_z}
 use Rattle.ask_argument.specs.Values.{moved}
 
-pub moved_passed : (x : ℕ) (z : ℤ) → SFits w32 z → moved x (to_z w32 (of_z w32 z)) ≡ moved x z
+pub moved_passed : (x : ℕ) (z : ℤ) → SFits w64 z → moved x (to_z w64 (of_z w64 z)) ≡ moved x z
 moved_passed x z f = ap (moved x) (to_z-of_z f)

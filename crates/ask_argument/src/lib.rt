@@ -19,7 +19,7 @@ pub fn in_range(low: usize, high: usize, y: usize) -> usize
 }
 
 // x + z, and 0 where that is below 0.
-pub fn shifted(x: usize, z: i32) -> usize
+pub fn shifted(x: usize, z: i64) -> usize
     requires { x ≤ 65535 }
     ensures { result ≡ moved x z }
 {

@@ -16,7 +16,7 @@ use nav_siblings::{child_rank, next_sibling, previous_sibling, sibling_at};
 
 // The answer to one question.
 #[tactic(auto, unfolding(meaning::specs::Questions::answer))]
-pub fn answer_kind(b: &[u8], image: Layout, kind: Kind, x: usize, z: i32) -> u32
+pub fn answer_kind(b: &[u8], image: Layout, kind: Kind, x: usize, z: i64) -> u32
     requires { IsNode b.now image x }
     ensures { result ≡ answer_kind (parents_in b.now) (list_of (metres_in b.now)) (some (asked_by kind)) x z }
 {

@@ -43,7 +43,7 @@ fn with_digit(value: u32, x: u8) -> u32 {
 // end.
 fn digits_at(line: &[u8], at: usize) -> u32 {
     let mut value: u32 = 0;
-    for x in line.iter().skip(at) {
+    for x in &line[at.min(line.len())..] {
         if *x < b'0' {
             return value;
         }

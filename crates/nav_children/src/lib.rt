@@ -103,7 +103,7 @@ pub fn degree_of(b: &[u8], image: Layout, x: usize) -> u32
 }
 
 // Child number z of node x, 0 if there is none.
-pub fn child_number(b: &[u8], image: Layout, x: usize, z: i32) -> u32
+pub fn child_number(b: &[u8], image: Layout, x: usize, z: i64) -> u32
     requires { IsNode b.now image x }
     ensures { result ≡ answer (parents_in b.now) child x z }
 {

@@ -50,7 +50,7 @@ pub fn child_rank(b: &[u8], image: Layout, x: usize) -> u32
 // The sibling of node x that is z places to the right, to the left where z is negative, 0 if there
 // is none. Siblings end where a run of ones ends: to the left the run before theirs, to the right
 // their own.
-pub fn sibling_at(b: &[u8], image: Layout, x: usize, z: i32) -> u32
+pub fn sibling_at(b: &[u8], image: Layout, x: usize, z: i64) -> u32
     requires { IsNode b.now image x }
     ensures { result ≡ answer (parents_in b.now) sibling x z }
 {

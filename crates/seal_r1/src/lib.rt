@@ -49,9 +49,12 @@ pub fn write_r1(image: &mut [u8], ps: &[u32], samples: usize) -> usize
     ensures { (result ≡ runs_in ps.now) × R1Written image.old image.new ps.now samples }
 {
     let mut k = 0;
-    for b in 0..ps.len().div_ceil(8) {
+    let mut b = 0;
+    // a `for` over the bytes keeps a number more, and sealing with metres misses its speed by it
+    while 8 * b < ps.len() {
         let x = seal_r1_bits::r1_byte(ps, 8 * b);
         k = write_r1_byte(image, samples, b, x, k);
+        b += 1;
     }
     k
 }

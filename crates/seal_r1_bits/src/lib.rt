@@ -28,12 +28,12 @@ pub fn count_runs(ps: &[u32]) -> usize
     requires ps_value { bad_entry ps.now ≡ 0 }
     ensures { result ≡ runs_in ps.now }
 {
-    let mut k = 1;
+    let mut k = 0;
     for i in 1..ps.len() {
         // a number to be added, so that nothing branches on whether they differ
         k += usize::from(ps[i - 1] != ps[i]);
     }
-    k
+    k + 1
 }
 
 // Bit i of R1, and 0 after the last one.

@@ -16,7 +16,9 @@ use Rattle.text_laws.proofs.Bytes.{brackets-at}
 use Rattle.std.specs.Prelude.{Ok, Err}
 use Rattle.text_nesting.specs.declared.TextFault.{TextFault}
 use Rattle.text_nesting.specs.declared.TextFault.TheVariants.{Broken, Deeper}
-use Rattle.text_nesting.specs.Nesting.{tally, open_in, Same, Going, Ready, Stops, TextRead}
+use Rattle.text_nesting.specs.declared.Found.{Found}
+use Rattle.text_nesting.specs.declared.Found.TheVariants as found
+use Rattle.text_nesting.specs.Nesting.{tally, open_in, Same, Going, Ready, Stops, NodeRead, ListRead, TextRead, result_of}
 
 -- ---- readings that follow one another
 pub then : {text : List ℕ} {a b c : ℕ} {s t u : Reading} {k l m : List ℕ} → Same text a b s t k l → Same text b c t u l m → Same text a c s u k m
@@ -130,6 +132,13 @@ still_inside (suc k) m h = refl
 pub stops_before : {text : List ℕ} {a b : ℕ} {s t : Reading} {k l : List ℕ} → Same text a b s t k l → (e : TextFault) → Stops text b t e → Stops text a s e
 stops_before p (Broken q) g = (g.0, g.1, p.read ∙ g.2)
 stops_before p (Deeper q) g = (g.0, g.1, p.read ∙ g.2)
+
+pub node_stops : (m : List ℕ) {text k l : List ℕ} (at left : ℕ) (r : Found) → ((to : ℕ) → r ≡ found.Over to → ⊥)
+    → Same text at (at + 1) (inside (64 - left) left) (inside (64 - (left - 1)) (left - 1)) k l
+    → ListRead text (at + 1) (left - 1) l (result_of r) m → NodeRead text at left k (result_of r) m
+node_stops m at left (found.Over to) o p g = absurd (o to refl)
+node_stops m at left (found.Broken q) o p g = stops_before p (Broken q) g
+node_stops m at left (found.Deeper q) o p g = stops_before p (Deeper q) g
 
 pub text_stops : (m : List ℕ) {text k l : List ℕ} {at : ℕ} {s : Reading} → Same text 0 at (inside 0 64) s k l → (e : TextFault) → Stops text at s e → TextRead text k (Err e) m
 unfolding read_text read_within

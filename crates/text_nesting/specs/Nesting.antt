@@ -4,6 +4,8 @@ use Rattle.meaning.specs.Strings.{Bit, O, I}
 use Rattle.meaning.specs.Text.{is_blank, brackets_in, Reading, inside, over, wrong, too_deep, closed, whole, broken, deeper, read_from, read_text}
 use Rattle.text_nesting.specs.declared.TextFault.{TextFault}
 use Rattle.text_nesting.specs.declared.TextFault.TheVariants.{Broken, Deeper}
+use Rattle.text_nesting.specs.declared.Found.{Found}
+use Rattle.text_nesting.specs.declared.Found.TheVariants as found
 
 -- how many nodes each level has, where o nodes are open and so many were met before: an opening
 -- bracket is a node more at level o + 1
@@ -45,6 +47,12 @@ pub record Ready (text : List ℕ) (at : ℕ) (levels : List ℕ) : Type 0 where
   pub within : at ≤ length text
   pub count : length levels ≡ 66
   pub few : (e : ℕ) → get_or levels e 0 ≤ at
+
+-- what is found, as a result
+abbrev pub result_of : Found → Result ℕ TextFault
+result_of (found.Over to) = Ok to
+result_of (found.Broken p) = Err (Broken p)
+result_of (found.Deeper p) = Err (Deeper p)
 
 -- the reading from byte number `at` on comes to a byte where it stops
 abbrev pub Stops : List ℕ → ℕ → Reading → TextFault → Type 0

@@ -14,7 +14,7 @@ write_r1_byte-k-requires c =
     let are = good_parents a.ps.now c.requires.in_bounds c.requires.ps_value in
     let within =
     ending_within a.ps.now a.image.now c.loop-b.image a.samples c.loop-b.b c.loop-b.k are c.loop-b.invariant _ c.r1_byte-x.ensures
-    (omega arith) in
+    c.loop-b-test.true in
     let few = ending_few a.ps.now a.image.now c.loop-b.image a.samples c.loop-b.b c.loop-b.k are c.loop-b.invariant (omega arith) in
     search rules
 
@@ -23,11 +23,14 @@ loop-b-preserved c =
     let a = c.args in
     let are = good_parents a.ps.now c.requires.in_bounds c.requires.ps_value in
     ending_next a.ps.now a.image.now c.loop-b.image a.samples c.loop-b.b c.loop-b.k are c.loop-b.invariant _ c.r1_byte-x.ensures
-    (omega arith) c.requires.ps_len_bound c.requires.ps_bound c.requires.ps_in_bounds _ _
+    c.loop-b-test.true c.requires.ps_len_bound c.requires.ps_bound c.requires.ps_in_bounds _ _
     c.write_r1_byte-k.ensures.1 c.write_r1_byte-k.ensures.0
+
+pub shape_of-image : goal.shape_of-image
+shape_of-image c = c.loop-b.invariant.kept
 
 pub returns : goal.returns
 returns c =
     let a = c.args in
     let are = good_parents a.ps.now c.requires.in_bounds c.requires.ps_value in
-    ending_last a.ps.now a.image.now c.loop-b.image a.samples c.loop-b.b c.loop-b.k are c.loop-b.invariant (omega arith)
+    ending_last a.ps.now a.image.now c.loop-b.image a.samples c.loop-b.b c.loop-b.k are c.loop-b.invariant c.loop-b-test.false

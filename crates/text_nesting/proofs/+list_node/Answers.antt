@@ -1,8 +1,8 @@
-use Rattle.std.proofs.Common.{◌≡◌, ℕ, ◌+◌, ◌-◌, get_or, set, Err, ◌∙◌, arith, rules}
+use Rattle.std.proofs.Common.{ℕ, ◌+◌, ◌-◌, get_or, set, ◌∙◌, arith}
 use Rattle.meaning.specs.Text.{inside}
 use Rattle.text_nesting.specs.declared.TextFault.TheVariants.{Broken}
 use Rattle.text_nesting.specs.Nesting.{Same, Stops}
-use Rattle.text_nesting.proofs.Laws.{then, opens, closes, deep, no_bracket, ends, ready_on, stops_before}
+use Rattle.text_nesting.proofs.Laws.{then, opens, closes, deep, no_bracket, ends, ready_on, node_stops}
 use Rattle.text_nesting.proofs.+list_node.Goals as goal
 use Rattle.text_nesting.proofs.+list_node.Goals.{node-Else-left-eq0, node-else-end-text-via-then-end-text+else-text-end-eq-CLOSING, node-else-end-text-via-else-end-text}
 
@@ -23,15 +23,16 @@ opened : (t : ℕ) (c : goal.node-Else-left-eq0 t)
     Same a.text.now a.at (a.at + 1) (inside (64 - a.left) a.left) (inside (64 - (a.left - 1)) (a.left - 1)) l (set l o (get_or l o 0 + 1))
 opened t c = opens c.args.text.now c.args.at c.requires.at_in_bounds c.args.left c.args.levels.now (omega arith) (omega arith) c.requires.at_value
 
-pub node-returns-in_err-end : goal.node-returns-in_err-end
-node-returns-in_err-end t c =
-    let e : c.from_residual.result ≡ Err c.in_err-end.field-0.0 = search rules in
-    rw e (stops_before (opened t (goal.at.node-returns-in_err-end t c).Else-left-eq0) _ c.in_err-end.ensures)
+pub node-returns-in_default : goal.node-returns-in_default
+node-returns-in_default t c =
+    node_stops c.list-found.new.levels c.args.at c.args.left c.list-found.result c.in_default.not-Over
+    (opened t (goal.at.node-returns-in_default t c).Else-left-eq0)
+    c.list-found.ensures
 
 pub node-returns-then-text-end-eq-CLOSING : goal.node-returns-then-text-end-eq-CLOSING
 node-returns-then-text-end-eq-CLOSING t c =
     let a = c.args in
-    let r = c.in_ok-end.ensures in
+    let r = c.in-Over.ensures in
     let h = c.if-end-text.true in
     let read = then (opened t (goal.at.node-returns-then-text-end-eq-CLOSING t c).Else-left-eq0) r.2 in
     let same = then read (closes a.text.now _ h a.left _ (omega arith) (omega arith) c.if-text-end-eq-CLOSING.true) in
@@ -40,8 +41,8 @@ node-returns-then-text-end-eq-CLOSING t c =
 pub node-returns : goal.node-returns
 node-returns t c =
     let text = c.args.text.now in
-    let to = c.in_ok-end.end in
-    let r = c.in_ok-end.ensures in
+    let to = c.in-Over.end in
+    let r = c.in-Over.ensures in
     let read = then (opened t (goal.at.node-returns t c).Else-left-eq0) r.2 in
     let s = inside (64 - (c.args.left - 1)) (c.args.left - 1) in
     let x : Stops text to s (Broken (to + 1)) = elim c.else-end-text.branch [

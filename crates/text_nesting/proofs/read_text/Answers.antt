@@ -1,6 +1,6 @@
-use Rattle.std.proofs.Common.{◌≡◌, ◌+◌, Err, rules}
+use Rattle.std.proofs.Common.{◌+◌}
 use Rattle.meaning.specs.Text.{inside, over}
-use Rattle.text_nesting.specs.declared.TextFault.TheVariants.{Broken}
+use Rattle.text_nesting.specs.declared.TextFault.TheVariants.{Broken, Deeper}
 use Rattle.text_nesting.specs.Nesting.{Same, Ready, Stops}
 use Rattle.text_nesting.proofs.Laws.{then, no_opening, no_end, ends, ready_on, text_stops, text-over}
 use Rattle.text_nesting.proofs.read_text.Goals as goal
@@ -12,10 +12,11 @@ first : (c : goal.After-past_blanks-first)
     Same a.text.now 0 c.past_blanks-first.result (inside 0 64) (inside 0 64) a.levels.now a.levels.now
 first c = c.past_blanks-first.ensures.same (inside 0 64) c.args.levels.now tt
 
-pub returns-in_err-end : goal.returns-in_err-end
-returns-in_err-end c =
-    let e : c.from_residual.result ≡ Err c.in_err-end.field-0.0 = search rules in
-    rw e (text_stops _ (first (goal.at.returns-in_err-end c).After-past_blanks-first) _ c.in_err-end.ensures)
+pub returns-in-Broken : goal.returns-in-Broken
+returns-in-Broken c = text_stops c.node.new.levels (first (goal.at.returns-in-Broken c).After-past_blanks-first) (Broken c.in-Broken.byte) c.in-Broken.ensures
+
+pub returns-in-Deeper : goal.returns-in-Deeper
+returns-in-Deeper c = text_stops c.node.new.levels (first (goal.at.returns-in-Deeper c).After-past_blanks-first) (Deeper c.in-Deeper.byte) c.in-Deeper.ensures
 
 -- the node, and the blanks after it
 after : (c : goal.After-past_blanks-after)
@@ -23,7 +24,7 @@ after : (c : goal.After-past_blanks-after)
     let levels = c.node.new.levels in
     Ready a.text.now c.past_blanks-after.result levels × Same a.text.now 0 c.past_blanks-after.result (inside 0 64) over a.levels.now levels
 after c =
-    let r = c.in_ok-end.ensures in
+    let r = c.in-Over.ensures in
     let e = c.past_blanks-after.ensures in
     let same = e.same over c.node.new.levels tt in
     (ready_on r.1 same.up e.within, then (c.past_blanks-first.ensures.same (inside 0 64) c.args.levels.now tt) (then r.2 same))
