@@ -45,7 +45,7 @@ fn past_blanks(text: &[u8], from: usize) -> usize
     ensures { AfterBlanks text.now from result }
 {
     let mut at = from;
-    // with a `for` a text takes a fifth to a half more of time, and misses the speed asked of it
+    // with a `for` a text takes an eighth to a half more of time, and misses the speed asked of it
     while at < text.len() {
         if !is_blank(text[at]) {
             return at;
