@@ -17,7 +17,7 @@ pub struct Sums {
 // The sums of the 126 words from byte `at` on, s from `start` and t from 0: each word is added to
 // s, and then s to t.
 // The words are counted by their bytes, so that a word is found by one addition. A `for` over the
-// 126 words is unrolled half as far, and takes longer than the speed asked of sealing allows.
+// 126 words is unrolled half as far, and images with metres are checked in a tenth more of time.
 pub fn block_sums(b: &[u8], at: usize, start: u32) -> Sums
     requires { at + 504 ≤ length b.now }
     ensures { sums_of result ≡ sums (words (take 504 (drop at b.now))) start 0 }

@@ -50,7 +50,7 @@ pub fn write_r1(image: &mut [u8], ps: &[u32], samples: usize) -> usize
 {
     let mut k = 0;
     let mut b = 0;
-    // a `for` over the bytes keeps a number more, and sealing with metres misses its speed by it
+    // a `for` over the bytes keeps a number more, and sealing took some hundredths longer with it
     while 8 * b < ps.len() {
         let x = seal_r1_bits::r1_byte(ps, 8 * b);
         k = write_r1_byte(image, samples, b, x, k);
