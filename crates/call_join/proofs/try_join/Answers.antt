@@ -92,4 +92,4 @@ returns c =
     let z = sized (goal.at.returns c).Else-join_sizes_wrong in
     let g = no_place _ (sym c.bad_entry.ensures ∙ c.in_default.is) in
     join_done _ _ _ _ z (sym c.in_ok-check_pack.was ∙ c.check_pack.ensures) g (good_parents _ z.some g) c.done.ensures
-    c.write_string.ensures c.if-pack-longer.false
+    c.write_string.ensures (omega (arith, c.if-pack-longer.false))

@@ -25,10 +25,10 @@ loop-w-preserved c =
     let w = c.loop-w.w in
     let whole = l.left ∙ ap (λ k. drop (126 * k) c.args.metres.now) (sym s.1) in
     let in_list = number_inside _ _ _ _ _ _ l.size whole s.0.1.0 s.0.1.1 w c.loop-w-test.true in
-    let is = number_at _ _ _ _ _ _ l.size whole s.0.1.0 s.0.1.1 w c.loop-w-test.true in
+    let is = number_at c.args.metres.now _ c.in-Some.words.now _ _ c.in-Some.j l.size whole s.0.1.0 s.0.1.1 w c.loop-w-test.true in
     let known = c.type_inv.metres (126 * c.in-Some.j + w) in
     putting_next _ _ _ _ _ _ c.loop-w.invariant in_list.0 in_list.1 (omega (arith, known)) (omega (arith, l.put.kept)) _
-    (c.put_word.ensures ∙ ap (with_word c.loop-w.image (512 * (c.args.block + c.in-Some.j) + 4 * w)) is)
+    (c.put_word.ensures ∙ ap (with_word c.loop-w.image (512 * (c.args.block + c.in-Some.j) + 4 * w)) (omega (arith, is)))
 
 pub loop-j-preserved : goal.loop-j-preserved
 loop-j-preserved c =
